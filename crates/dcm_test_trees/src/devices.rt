@@ -1,7 +1,43 @@
-// What is read and written.
+// What is read and written, and how that fails.
 use std::alloc::Global;
 use std::io;
 use std::io::{ErrorKind, Read, Write};
+
+/// More bytes than a run reads or writes, and more files than it makes.
+pub const ALL: usize = usize::MAX;
+
+/// How the devices of a system work.
+#[derive(Clone, Copy)]
+pub struct TreeDevices {
+    /// The bytes that a reader gives at most.
+    pub step: usize,
+    /// The bytes of standard output that go well.
+    pub room: usize,
+    /// The bytes of each file that go well.
+    pub disk: usize,
+    /// How many files are made before another process makes one at the path of the next.
+    pub files: usize,
+    /// The bits that modes of new files do not get.
+    pub umask: u32,
+    /// Whether a file may get a second name.
+    pub has_links: bool,
+    /// A path that cannot be opened.
+    pub locked: &'static str,
+    /// The path of a folder whose listing fails after its last name.
+    pub unlisted: &'static str,
+}
+
+/// Devices that do not fail.
+pub const SOUND: TreeDevices = TreeDevices {
+    step: ALL,
+    room: ALL,
+    disk: ALL,
+    files: ALL,
+    umask: 0o022,
+    has_links: true,
+    locked: "",
+    unlisted: "",
+};
 
 /// A reader of std that gives at most so many bytes a call.
 #[derive(Drop)]

@@ -14,8 +14,8 @@ mod place;
 mod system;
 mod tree;
 
-pub use devices::{TreeReader, TreeWriter};
+pub use devices::{ALL, SOUND, TreeDevices, TreeReader, TreeWriter};
 pub use listing::TreeFolder;
 pub use node::Node;
-pub use system::{ALL, MemoryTree, SOUND, TreeDevices};
+pub use system::MemoryTree;
 pub use tree::Tree;

@@ -2,7 +2,7 @@
 ghost use Rattle.dcm_files.specs.Devices.{anything};
 ghost use Rattle.dcm_files.specs.Folders as folders;
 
-use super::devices::{TreeReader, TreeWriter};
+use super::devices::{TreeDevices, TreeReader, TreeWriter};
 use super::listing::TreeFolder;
 use super::node::{DEVICE, Node};
 use super::place::{Place, place_at};
@@ -13,38 +13,11 @@ use std::alloc::{AllocError, Global};
 use std::io::ErrorKind;
 use std::{io, mem};
 
-/// More bytes than a run reads or writes.
-pub const ALL: usize = usize::MAX;
-
 /// The bits of a new file's mode where nothing else is said.
 const USUAL_MODE: u32 = 0o666;
 
 /// Who may read, write and run a file.
 const MODE_BITS: u32 = 0o777;
-
-/// How the devices of a system work.
-#[derive(Clone, Copy)]
-pub struct TreeDevices {
-    /// The bytes that a reader gives at most.
-    pub step: usize,
-    /// The bytes of standard output that go well.
-    pub room: usize,
-    /// The bytes of each file that go well.
-    pub disk: usize,
-    /// The bits that modes of new files do not get.
-    pub umask: u32,
-    /// Whether a file may get a second name.
-    pub has_links: bool,
-}
-
-/// Devices that do not fail.
-pub const SOUND: TreeDevices = TreeDevices {
-    step: ALL,
-    room: ALL,
-    disk: ALL,
-    umask: 0o022,
-    has_links: true,
-};
 
 /// A system over a tree in memory.
 #[derive(Drop)]
@@ -66,6 +39,11 @@ fn taken() -> io::Error {
 /// The error of a path at which nothing is.
 fn missing() -> io::Error {
     io::Error::from(ErrorKind::NotFound)
+}
+
+/// The error of a path that cannot be opened.
+fn locked() -> io::Error {
+    io::Error::from(ErrorKind::PermissionDenied)
 }
 
 /// The error of a path at which a folder is.
@@ -114,6 +92,14 @@ impl MemoryTree {
             return Err(taken());
         }
         Ok(place)
+    }
+
+    /// The number of what a path leads to that is to be opened.
+    fn opened_number(&self, path: &str) -> io::Result<usize> {
+        if path == self.devices.locked {
+            return Err(locked());
+        }
+        self.number(path, Links::Followed)
     }
 
     /// The number of what a path leads to.
@@ -173,6 +159,18 @@ impl MemoryTree {
         Ok(self.output(number))
     }
 
+    /// Counts a file that is to be made. Where none more may be, another process makes it first.
+    fn intrude(&mut self, path: &str) -> io::Result<()> {
+        if self.devices.files > 0 {
+            self.devices.files -= 1;
+            return Ok(());
+        }
+        let place = self.free_place(path)?;
+        let file = Node::File(Vec::new(self.alloc), USUAL_MODE & !self.devices.umask);
+        self.tree.add(place.folder, place.text.as_slice(), file)?;
+        Ok(())
+    }
+
     /// The number of a file, where no folder is there.
     fn file_number(&self, path: &str) -> io::Result<usize> {
         let number = self.number(path, Links::Kept)?;
@@ -225,7 +223,7 @@ impl System for MemoryTree {
     }
 
     fn open(&mut self, path: &str) -> io::Result<Opened<Std<TreeReader>>> {
-        let number = self.number(path, Links::Followed)?;
+        let number = self.opened_number(path)?;
         self.input(number)
     }
 
@@ -310,17 +308,18 @@ impl Folders for MemoryTree {
     ghost folders_do = { folders.anything };
 
     fn open_folder(&mut self, path: &str) -> io::Result<TreeFolder> {
-        let number = self.number(path, Links::Followed)?;
+        let number = self.opened_number(path)?;
         if !self.tree.is_folder(number) {
             return Err(io::Error::from(ErrorKind::NotADirectory));
         }
-        let folder = TreeFolder::new(&self.tree, number)?;
+        let fails = path == self.devices.unlisted;
+        let folder = TreeFolder::new(&self.tree, number, fails)?;
         self.count();
         Ok(folder)
     }
 
     fn next_name(&mut self, folder: &mut TreeFolder, name: &mut EntryName) -> io::Result<bool> {
-        Ok(folder.next(name))
+        folder.next(name)
     }
 
     fn close_folder(&mut self, _folder: TreeFolder) {
@@ -343,6 +342,7 @@ impl Folders for MemoryTree {
     }
 
     fn create_as(&mut self, path: &str, mode: u32) -> io::Result<Opened<Std<TreeWriter>>> {
+        self.intrude(path)?;
         let place = self.free_place(path)?;
         self.make_file(place, mode)
     }

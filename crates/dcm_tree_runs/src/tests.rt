@@ -4,6 +4,7 @@ mod bytes;
 mod copies;
 mod dumps;
 mod failing;
+mod faults;
 mod instances;
 mod left_out;
 mod lists;
@@ -92,4 +93,14 @@ fn dumps_of_files(rt: HostRuntime) -> Result<(), Fail> {
 #[test]
 fn dumps_by_characters(rt: HostRuntime) -> Result<(), Fail> {
     expect_rows(rt.alloc(), &dumps::CHARACTERS)
+}
+
+#[test]
+fn inputs_that_fail(rt: HostRuntime) -> Result<(), Fail> {
+    expect_rows(rt.alloc(), &faults::INPUTS)
+}
+
+#[test]
+fn outputs_that_fail(rt: HostRuntime) -> Result<(), Fail> {
+    expect_rows(rt.alloc(), &faults::OUTPUTS)
 }

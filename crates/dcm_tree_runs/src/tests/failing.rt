@@ -61,8 +61,6 @@ fn full_disks(rt: HostRuntime) -> Result<(), Fail> {
     Ok(())
 }
 
-const READ_FAILED: &[u8] = b"dcmtools: b: reading failed after 0 bytes\n";
-
 /// A file whose reading fails, between others.
 const BEFORE: [Entry; 3] = [File(b"in/a", GOOD), Broken(b"in/b"), File(b"in/x/c", OTHER)];
 
@@ -125,19 +123,6 @@ fn all_rows(alloc: Global) -> Result<Vec<&'static str>, AllocError> {
         rows.push(stage.row)?;
     }
     Ok(rows)
-}
-
-/// A file whose reading fails ends alone.
-#[test]
-fn reading_fails(rt: HostRuntime) -> Result<(), Fail> {
-    let rows = all_rows(rt.alloc())?;
-    let [.., last] = &STAGES;
-    let left = Left {
-        output: rows.as_slice(),
-        told: READ_FAILED,
-        there: last.there,
-    };
-    expect_left(rt.alloc(), &BEFORE, SOUND, &left)
 }
 
 /// Expects what is left where standard output fails at each byte of a row, before which it took so many.

@@ -3,6 +3,7 @@ use super::bytes::{GOOD, OTHER};
 use super::rows::Entry::{Broken, File, Folder, Link, Plain, Set};
 use super::rows::{Bytes, EMPTY, HEADER, Row};
 use dcm_test_devices::Start;
+use dcm_test_trees::{SOUND, TreeDevices};
 
 /// Names in lists.
 pub const LISTS: [Row; 5] = [
@@ -205,7 +206,7 @@ pub const NOTHING: [Row; 6] = [
         name: "an output that takes no byte",
         words: "dcmconv +r in out",
         before: &[File(b"in/a", GOOD), File(b"in/x/b", OTHER)],
-        room: 0,
+        devices: TreeDevices { room: 0, ..SOUND },
         told: b"dcmtools: output failed\n",
         status: 4,
         made: &[Folder(b"out")],

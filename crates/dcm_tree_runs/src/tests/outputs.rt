@@ -3,6 +3,7 @@ use super::bytes::{CUT, GOOD, OTHER, TEXT};
 use super::rows::Entry::{File, FileOfMode, Folder, Link, Plain, Set};
 use super::rows::{Bytes, EMPTY, HEADER, Row};
 use dcm_test_devices::Start;
+use dcm_test_trees::{SOUND, TreeDevices};
 
 /// Files at any depth, modes, and files at fault.
 pub const OUTPUTS: [Row; 8] = [
@@ -48,7 +49,10 @@ pub const OUTPUTS: [Row; 8] = [
             File(b"in/b", GOOD),
             FileOfMode(b"in/c", GOOD, 0o440),
         ],
-        umask: 0o77,
+        devices: TreeDevices {
+            umask: 0o77,
+            ..SOUND
+        },
         output: &[
             HEADER,
             r#""a","a","written"
@@ -70,7 +74,10 @@ pub const OUTPUTS: [Row; 8] = [
             FileOfMode(b"in/a", GOOD, 0o1777),
             FileOfMode(b"in/b", GOOD, 0o666),
         ],
-        umask: 0o0,
+        devices: TreeDevices {
+            umask: 0o0,
+            ..SOUND
+        },
         output: &[
             HEADER,
             r#""a","a","written"

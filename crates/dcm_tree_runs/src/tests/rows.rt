@@ -1,6 +1,6 @@
 // Runs over trees: what is there, words, and what is wanted of them.
 use dcm_test_devices::Start;
-use dcm_test_trees::{ALL, Node, Tree};
+use dcm_test_trees::{Node, SOUND, Tree, TreeDevices};
 use std::alloc::{AllocError, Global};
 
 /// The bytes of a file.
@@ -44,10 +44,8 @@ pub struct Row {
     pub before: &'static [Entry],
     /// Standard input.
     pub stdin: Bytes,
-    /// The bits that modes of new files do not get.
-    pub umask: u32,
-    /// How many bytes standard output takes.
-    pub room: usize,
+    /// How the devices of the run work.
+    pub devices: TreeDevices,
     /// Standard output, in pieces.
     pub output: &'static [&'static str],
     /// The lines on standard error.
@@ -70,8 +68,7 @@ pub const EMPTY: Row = Row {
     words: "",
     before: &[],
     stdin: NO_BYTES,
-    umask: 0o022,
-    room: ALL,
+    devices: SOUND,
     output: &[],
     told: b"",
     status: 0,

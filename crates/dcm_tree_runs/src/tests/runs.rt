@@ -4,7 +4,7 @@ use dcm_base::{Std, Watched};
 use dcm_tables::obey;
 use dcm_test_devices::split;
 use dcm_test_tables::holds;
-use dcm_test_trees::{MemoryTree, SOUND, Tree, TreeDevices};
+use dcm_test_trees::{MemoryTree, Tree, TreeDevices};
 use std::alloc::{AllocError, Global};
 use std::test::Fail;
 
@@ -73,13 +73,8 @@ fn wanted_of(alloc: Global, row: &Row) -> Result<Answer, AllocError> {
     })
 }
 
-/// The system of a row, by devices that work so but for what the row says.
+/// The system of a row, by devices that work so.
 fn system_of(alloc: Global, row: &Row, devices: TreeDevices) -> Result<MemoryTree, AllocError> {
-    let devices = TreeDevices {
-        room: row.room,
-        umask: row.umask,
-        ..devices
-    };
     let tree = tree_of(alloc, row.before)?;
     let stdin = row.stdin.all(alloc)?;
     Ok(MemoryTree::new(alloc, tree, stdin, devices))
@@ -87,12 +82,6 @@ fn system_of(alloc: Global, row: &Row, devices: TreeDevices) -> Result<MemoryTre
 
 /// The bytes that a reader gives at a time.
 const STEPS: [usize; 5] = [1, 2, 3, 7, 100_000];
-
-/// A file system on which no file has two names.
-const NO_LINKS: TreeDevices = TreeDevices {
-    has_links: false,
-    ..SOUND
-};
 
 /// A row with its words, and what is wanted of it.
 #[derive(Drop)]
@@ -112,7 +101,7 @@ impl<'a> Case<'a> {
         })
     }
 
-    /// Expects the answer, by devices that work so but for what the row says.
+    /// Expects the answer, by devices that work so.
     fn expect(&self, alloc: Global, devices: TreeDevices) -> Result<(), Fail> {
         let system = system_of(alloc, self.row, devices)?;
         expect_run(
@@ -128,10 +117,18 @@ impl<'a> Case<'a> {
 /// Expects the answer of a row by readers that give so many bytes at a time, and where no file has two names.
 fn expect_row(alloc: Global, row: &Row) -> Result<(), Fail> {
     let case = Case::new(alloc, row)?;
+    let devices = row.devices;
     for step in STEPS {
-        case.expect(alloc, TreeDevices { step, ..SOUND })?;
+        case.expect(alloc, TreeDevices { step, ..devices })?;
     }
-    case.expect(alloc, NO_LINKS)
+    let has_links = false;
+    case.expect(
+        alloc,
+        TreeDevices {
+            has_links,
+            ..devices
+        },
+    )
 }
 
 /// Expects the answers of rows.
