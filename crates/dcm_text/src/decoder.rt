@@ -43,7 +43,13 @@ fn copied<const N: usize>(bytes: &[u8]) -> ArrayVec<u8, N>
 }
 
 /// What a text begins with, where it ends or goes on.
-pub(crate) fn found(sets: &Sets, kind: TextKind, halves: Halves, text: &[u8], at_end: bool) -> Option<Found>
+pub(crate) fn found(
+    sets: &Sets,
+    kind: TextKind,
+    halves: Halves,
+    text: &[u8],
+    at_end: bool,
+) -> Option<Found>
     ensures { result ≡ spec.found at_end sets.now kind halves text.now }
 {
     match first_of(sets, kind, halves, text) {

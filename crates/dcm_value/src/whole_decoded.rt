@@ -70,7 +70,7 @@ fn append_text<const N: usize>(
     requires room { length line.old.items + 66 ≤ N }
     ensures items { MatchOption result (line.new.items ≡ line.old.items)
         (λ n. (line.new.items ≡ line.old.items
-            ++ padded (spec.decoded_shortened mode (spec.bracketed_pieces (pieces_left pieces.old))))
+        ++ padded (spec.decoded_shortened mode (spec.bracketed_pieces (pieces_left pieces.old))))
         × (n ≡ (if is_one vr then 1 else 1 + backslashes (pieces_left pieces.old)))) }
     ensures within { length line.new.items ≤ length line.old.items + 66 }
     ensures known { is_some result

@@ -22,6 +22,12 @@ returns-then-size-gt0-clause-fits c =
     (c.split_at.ensures.front ∙ ap (take c.min.result) c.rest-rest.ensures) c.ascii_front-size.ensures.value
     (omega (arith, c.ascii_front-size.ensures.most, c.split_at.ensures.front_len)) in (
       ap (list_all is_ascii_byte) c.pass_plain.ensures.front ∙ plain,
-      omega (arith, ap length c.pass_plain.ensures.front, length-take c.ascii_front-size.result rest,
-      c.ascii_front-size.ensures.most, c.split_at.ensures.front_len, c.min.ensures),
+      omega (
+        arith,
+        ap length c.pass_plain.ensures.front,
+        length-take c.ascii_front-size.result rest,
+        c.ascii_front-size.ensures.most,
+        c.split_at.ensures.front_len,
+        c.min.ensures,
+      ),
     )

@@ -30,10 +30,10 @@ returns-in-Short-clause-items g c =
     let long : 66 ≤ length front = omega (arith, c.len.ensures.value, c.if-len-lt-UNCUT.false) in
     let display = whole front c.push.new.self.items rest all c.show_front-front.ensures.shown begun in (
       c.append_cut.ensures.items
-      ∙ ap (λ (d : List ℕ). line ++ (take (cut_size d) d ++ codes "...")) c.as_slice-in-Short.ensures.value
-      ∙ ap (λ (x : List ℕ). line ++ x) (cut_shown front (flat_map dumped_piece rest) long)
-      ∙ ap (λ (d : List ℕ). line ++ padded (decoded_shortened Short d)) display
-      ∙ ap (λ (m : Mode). line ++ padded (decoded_shortened m (bracketed_pieces all))) (sym c.in-Short.is),
+          ∙ ap (λ (d : List ℕ). line ++ (take (cut_size d) d ++ codes "...")) c.as_slice-in-Short.ensures.value
+          ∙ ap (λ (x : List ℕ). line ++ x) (cut_shown front (flat_map dumped_piece rest) long)
+          ∙ ap (λ (d : List ℕ). line ++ padded (decoded_shortened Short d)) display
+          ∙ ap (λ (m : Mode). line ++ padded (decoded_shortened m (bracketed_pieces all))) (sym c.in-Short.is),
       c.count_all.ensures ∙ ap (λ (n : ℕ). cond (is_single c.args.vr) 1 (1 + n)) c.show_front-front.ensures.count,
     )
 
@@ -46,7 +46,12 @@ returns-in-Full-clause-known g c =
     let long : 66 ≤ length front = omega (arith, c.len.ensures.value, c.if-len-lt-UNCUT.false) in
     let display = whole front c.push.new.self.items rest all c.show_front-front.ensures.shown begun in
     let size : 66 < length (bracketed_pieces all) =
-    omega (arith, long, ap length display, length-append front (flat_map dumped_piece rest ++ codes "]"),
-    length-append (flat_map dumped_piece rest) (codes "]")) in
+    omega (
+      arith,
+      long,
+      ap length display,
+      length-append front (flat_map dumped_piece rest ++ codes "]"),
+      length-append (flat_map dumped_piece rest) (codes "]"),
+    ) in
     sym (ap (λ (m : Mode). is_short m || nat_le (length (bracketed_pieces all)) 66) c.in-Full.is
     ∙ long_not (length (bracketed_pieces all)) size)
