@@ -13,7 +13,7 @@ use Rattle.dcm_cli.specs.Calls.{Reader}
 use Rattle.dcm_cli.specs.Change.{Change}
 use Rattle.dcm_each.specs.Each.{DoesName, DoesAll}
 use Rattle.dcm_each.proofs.Mapped.{all_as}
-use Rattle.dcm_tables.specs.declared.table.TableWork.{TableWork}
+use Rattle.dcm_tables.specs.declared.rows.TableWork.{TableWork}
 use Rattle.dcm_tables.specs.Rows.{DoesFile}
 use Rattle.dcm_tables.specs.Table.{rows_into}
 use Rattle.dcm_tables.specs.TableWork.{work_of}

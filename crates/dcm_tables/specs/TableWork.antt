@@ -4,7 +4,7 @@ use Rattle.dcm_devices.specs.Writing.{Writer}
 use Rattle.dcm_table.specs.TableSink.{cleared}
 use Rattle.dcm_cli.specs.Calls.{Reader}
 use Rattle.dcm_each.specs.Each.{Work}
-use Rattle.dcm_tables.specs.declared.table.TableWork.{TableWork}
+use Rattle.dcm_tables.specs.declared.rows.TableWork.{TableWork}
 use Rattle.dcm_tables.specs.Rows.{DoesFile}
 
 -- its cells are emptied before each file, and nothing else goes from one to the next

@@ -1,7 +1,6 @@
 // The row of one file, and the lines on standard error that come after it.
-ghost use Rattle.std.specs.Prelude.{◌≡◌, ◌≤◌, ◌<◌, [], length, flat_map, option_to_list, IfOk};
+ghost use Rattle.std.specs.Prelude.{◌≡◌, ◌≤◌, [], flat_map, option_to_list, IfOk};
 ghost use Rattle.dcm_devices.specs.Writing.{Wrote};
-ghost use Rattle.dcm_files.specs.Pieces.{BUFFER_LIMIT};
 ghost use Rattle.dcm_names.specs.NamedLines.{too_long_line};
 ghost use Rattle.dcm_table.specs.TableSink.{cleared};
 ghost use Rattle.dcm_cli.specs.Change.{change_of};
@@ -15,11 +14,24 @@ use dcm_head::Meta;
 use dcm_names::{put_fault, put_too_long, put_unread};
 use dcm_table::{Cells, Columns, RowEnd, TextForm, put_row};
 
+/// The bytes of a file that are read at a time.
+pub const PIECE: usize = 16_384;
+
 /// What all rows of a table share.
 #[derive(Clone, Copy)]
 pub struct Shared<'a> {
     pub columns: &'a Columns,
     pub form: TextForm,
+}
+
+/// What reads files and writes their rows, one after another. One buffer and one reader of heads serve all files: to
+/// blank 33 KB for each file costs time that small files feel.
+#[derive(Drop)]
+pub struct TableWork<'c> {
+    pub form: TextForm,
+    pub meta: Meta,
+    pub buffer: [u8; PIECE],
+    pub cells: &'c mut Cells,
 }
 
 /// Writes the line of a column, where its value is too long for a cell.
@@ -104,27 +116,23 @@ fn file_status(cells: &Cells, end: RowEnd) -> u8
 /// Reads a file, writes its row, and reports what is wrong with it. Answers the status. Fails where the output fails,
 /// and then reports nothing.
 pub fn do_file<R: DeviceIn, W: DeviceOut, E: DeviceOut>(
-    form: TextForm,
+    work: &mut TableWork,
     name: &[u8],
     input: &mut Watched<R>,
-    buffer: &mut [u8],
-    meta: &mut Meta,
-    cells: &mut Cells,
     out: &mut Watched<W>,
     errors: &mut Watched<E>,
 ) -> Result<u8, WriteFailed>
-    requires room { 0 < length buffer.old }
-    requires bound { length buffer.old ≤ BUFFER_LIMIT }
-    ensures does { spec.DoesFile R.DeviceIn W.DeviceOut (cleared cells.old) form name.now
+    ensures does { spec.DoesFile R.DeviceIn W.DeviceOut (cleared work.old.cells.now) work.old.form name.now
         (change_of E.DeviceOut errors.old errors.new) out.old out.new input.old result input.new }
     ensures within { IfOk result (λ status. status ≤ statuses.DEVICE) }
-    ensures kept { cleared cells.new ≡ cleared cells.old }
+    ensures kept { cleared work.new.cells.now ≡ cleared work.old.cells.now }
+    ensures form { work.new.form ≡ work.old.form }
 {
-    match read_file_with(meta, input, buffer, cells) {
+    match read_file_with(&mut work.meta, input, &mut work.buffer, work.cells) {
         FileEnd::Read(end) => {
-            put_row(form, name, cells, out)?;
-            let _ = put_file_lines(name, cells, end, errors);
-            Ok(file_status(cells, end))
+            put_row(work.form, name, work.cells, out)?;
+            let _ = put_file_lines(name, work.cells, end, errors);
+            Ok(file_status(work.cells, end))
         }
         FileEnd::Unread(read) => {
             let _ = put_unread(name, read, errors);

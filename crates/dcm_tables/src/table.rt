@@ -9,25 +9,13 @@ ghost use Rattle.dcm_table_words.specs.Plans.{names_as};
 ghost use Rattle.dcm_tables.specs.Table as spec;
 ghost use Rattle.dcm_tables.specs.TableWork as work_spec;
 
-use crate::rows::{Shared, do_file};
+use crate::rows::{PIECE, Shared, TableWork, do_file};
 use dcm_base::{DeviceIn, DeviceOut, Watched, WriteFailed};
 use dcm_each::{Ends, FileWork, do_all};
 use dcm_files::{FileKind, System};
 use dcm_head::Meta;
-use dcm_table::{Cells, Columns, TextForm, put_header};
+use dcm_table::{Cells, Columns, put_header};
 use dcm_table_words::NameWords;
-
-/// The bytes of a file that are read at a time.
-const PIECE: usize = 16_384;
-
-/// What writes rows, one after another.
-#[derive(Drop)]
-struct TableWork<'c> {
-    form: TextForm,
-    meta: Meta,
-    buffer: [u8; PIECE],
-    cells: &'c mut Cells,
-}
 
 impl<'c, I: DeviceIn, W: DeviceOut> FileWork<I, W> for TableWork<'c> {
     ghost work = { work_spec.work_of I.DeviceIn W.DeviceOut };
@@ -40,16 +28,7 @@ impl<'c, I: DeviceIn, W: DeviceOut> FileWork<I, W> for TableWork<'c> {
         out: &mut Watched<W>,
         errors: &mut Watched<E>,
     ) -> Ends {
-        do_file(
-            self.form,
-            name,
-            input,
-            &mut self.buffer,
-            &mut self.meta,
-            self.cells,
-            out,
-            errors,
-        )
+        do_file(self, name, input, out, errors)
     }
 
     fn pass(&mut self, _out: &Watched<W>) {}
@@ -86,7 +65,6 @@ pub fn write_table<S: System, W: DeviceOut, E: DeviceOut>(
     ensures within { IfOk result (λ status. status ≤ statuses.DEVICE) }
 {
     put_header_where(has_header, shared.columns, out)?;
-    // One buffer and one reader of heads for all files: to blank 33 KB for each file costs time that small files feel.
     let mut work = TableWork {
         form: shared.form,
         meta: Meta::new(),
