@@ -15,7 +15,7 @@ use Rattle.dcm_trees.specs.Part as spec
 use Rattle.dcm_trees.specs.Part.{RemovesPart, MovesPart, MovesIfFree, GivesSecondName, GivesName, ClearsPart, naming_fate}
 use Rattle.dcm_tree_laws.specs.FileSystem.{FileSystem, Host, Tree, number_of, place_of, may_do, folders_do, HasWay, at_path, MakesLink, MovesWhat, a_file, same_file, a_folder, Removes, SameBytes}
 use Rattle.dcm_tree_laws.specs.Outputs.{HasOutput}
-use Rattle.dcm_tree_laws.specs.Stays.{IsOfOutput}
+use Rattle.dcm_tree_laws.specs.Stays.{IsOfOutput, Stays}
 use Rattle.dcm_tree_laws.proofs.Both.{Both}
 use Rattle.dcm_tree_laws.proofs.Forgets.{after_any, with_past}
 use Rattle.dcm_tree_laws.proofs.Looking.{finds, free_nothing}
@@ -38,10 +38,32 @@ pub record Ready {I O : Type 0} (h : Host I O) (IsWhole : ℕ → List ℕ → T
   pub kind : file.kind ≡ File
   pub done : IsWhole file.mode (t.bytes (number_of file))
 
+stays_since : {I O : Type 0} {h : Host I O} {IsWhole : ℕ → List ℕ → Type 0} {part output bytes : List ℕ} {start s : FileSystem} → IsReady h IsWhole part output bytes start s → Stays h part output start.now s.now
+stays_since {I} {O} {h} {IsWhole} {part} {output} {bytes} {start} {s} r =
+    let x : (past : _) × Both h IsWhole part output start.now (whole bytes) (with_past past s) = after_any h IsWhole part output start r.none r.of_output (whole bytes) s r.steps in
+    x.1.keeps.stays
+
+pub none_some : (o : Option Found) (f : Found) → o ≡ None → o ≡ Some f → ⊥
+none_some o f a b = absurd (cc)
+
 pub ready : {I O : Type 0} {h : Host I O} {IsWhole : ℕ → List ℕ → Type 0} {part output bytes : List ℕ} {start s : FileSystem} → IsReady h IsWhole part output bytes start s → Ready h IsWhole part s.now
 ready {I} {O} {h} {IsWhole} {part} {output} {bytes} {start} {s} r =
     let x : (past : _) × Both h IsWhole part output start.now (whole bytes) (with_past past s) = after_any h IsWhole part output start r.none r.of_output (whole bytes) s r.steps in
     record { file = x.1.holds.part_at.has.file; is = x.1.holds.part_at.has.is; kind = x.1.holds.part_at.has.kind; done = x.1.holds.part_at.done }
+
+-- an output is there, and nothing was at its path at the start
+pub record NewOutput {I O : Type 0} (h : Host I O) (IsWhole : ℕ → List ℕ → Type 0) (part path : List ℕ) (start now : Tree) : Type 0 where
+  pub out : HasOutput h IsWhole part path now
+  pub nothing : at_path h start path ≡ None
+
+pub was_nothing : {I O : Type 0} (h : Host I O) (part output path : List ℕ) (start now : Tree) (was : Option Found) → start.at (place_of h path) ≡ was → Stays h part output start now → place_of h path ≢ place_of h part → at_path h now path ≡ None
+    → at_path h start path ≡ None
+was_nothing h part output path start now None is stays apart none = is
+was_nothing h part output path start now (Some f) is stays apart none = absurd (none_some (at_path h now path) f none (stays.there (place_of h path) f apart is))
+
+new_output : {I O : Type 0} {h : Host I O} {IsWhole : ℕ → List ℕ → Type 0} {part output bytes : List ℕ} {start s : FileSystem} (path : List ℕ) (now : Tree) → IsReady h IsWhole part output bytes start s → at_path h s.now path ≡ None
+    → HasOutput h IsWhole part path now → NewOutput h IsWhole part path start.now now
+new_output {I} {O} {h} {IsWhole} {part} {output} {bytes} {start} {s} path now r none out = record { out = out; nothing = was_nothing h part output path start.now s.now (at_path h start.now path) refl (stays_since r) out.apart none }
 
 pub then_steps : {I O : Type 0} {h : Host I O} {IsWhole : ℕ → List ℕ → Type 0} {part output bytes : List ℕ} {start s t : FileSystem} → IsReady h IsWhole part output bytes start s → Steps h IsWhole part output (whole bytes) s (whole bytes) t
     → IsReady h IsWhole part output bytes start t
@@ -68,23 +90,22 @@ other_place : (t : Tree) (to part : List ℕ) (f : Found) → t.at to ≡ None �
 other_place t to part f none is e = absurd (cc)
 
 linked_out : {I O : Type 0} {h : Host I O} {IsWhole : ℕ → List ℕ → Type 0} {part output bytes : List ℕ} {start s after : FileSystem} (path : List ℕ) → IsReady h IsWhole part output bytes start s → MakesLink h part path s after
-    → HasOutput h IsWhole part path after.now
+    → NewOutput h IsWhole part path start.now after.now
 linked_out {I} {O} {h} {IsWhole} {part} {output} {bytes} {start} {s} {after} path r l =
-    as_file h IsWhole part path s.now after.now l.linked (ready r) l.was l.puts.there l.bytes (other_place s.now (place_of h path) (place_of h part) l.linked l.nothing l.was)
+    new_output path after.now r l.nothing
+    (as_file h IsWhole part path s.now after.now l.linked (ready r) l.was l.puts.there l.bytes (other_place s.now (place_of h path) (place_of h part) l.linked l.nothing l.was))
 
 pub is_file : (f : Found) → f.kind ≡ File → f.kind ≡ Folder → ⊥
 is_file f e other = absurd (cc)
-
-pub none_some : (o : Option Found) (f : Found) → o ≡ None → o ≡ Some f → ⊥
-none_some o f a b = absurd (cc)
 
 gone_apart : (u : Tree) (to part : List ℕ) (f : Found) → u.at to ≡ Some f → u.at part ≡ None → to ≢ part
 gone_apart u to part f is none e = absurd (cc)
 
 moved_out : {I O : Type 0} {h : Host I O} {IsWhole : ℕ → List ℕ → Type 0} {part output bytes : List ℕ} {start s after : FileSystem} (path : List ℕ) → IsReady h IsWhole part output bytes start s → (HasWay h s.now path → at_path h s.now path ≡ None)
-    → MovesWhat h part path s after → HasOutput h IsWhole part path after.now
+    → MovesWhat h part path s after → NewOutput h IsWhole part path start.now after.now
 moved_out {I} {O} {h} {IsWhole} {part} {output} {bytes} {start} {s} {after} path r nothing (a_file m) =
-    as_file h IsWhole part path s.now after.now m.moved (ready r) m.was m.there m.bytes (gone_apart after.now (place_of h path) (place_of h part) m.moved m.there m.gone)
+    new_output path after.now r (nothing m.way)
+    (as_file h IsWhole part path s.now after.now m.moved (ready r) m.was m.there m.bytes (gone_apart after.now (place_of h path) (place_of h part) m.moved m.there m.gone))
 moved_out {I} {O} {h} {IsWhole} {part} {output} {bytes} {start} {s} {after} path r nothing (same_file one other way from to same e) = absurd (none_some (at_path h s.now path) other (nothing way) to)
 moved_out {I} {O} {h} {IsWhole} {part} {output} {bytes} {start} {s} {after} path r nothing (a_folder one is kind stays) =
     let f : Ready h IsWhole part s.now = ready r in
@@ -105,12 +126,12 @@ not_named : {A : Type 0} (naming other : Naming) → naming ≡ other → is_nam
 not_named {A} naming other is not named = absurd (true_false (is_named naming) named (ap is_named is ∙ not))
 
 move_named : {I O : Type 0} {h : Host I O} {IsWhole : ℕ → List ℕ → Type 0} {part output bytes : List ℕ} {start s after : FileSystem} (path : List ℕ) → IsReady h IsWhole part output bytes start s → (HasWay h s.now path → at_path h s.now path ≡ None)
-    → (naming : Naming) → MovesPart (may_do {I = I} h) part path s naming after → is_named naming ≡ true → HasOutput h IsWhole part path after.now
+    → (naming : Naming) → MovesPart (may_do {I = I} h) part path s naming after → is_named naming ≡ true → NewOutput h IsWhole part path start.now after.now
 move_named path r nothing naming (spec.moved call is) named = moved_out path r nothing call
 move_named path r nothing naming (spec.not_moved e call is) named = not_named naming Failed is refl named
 
 if_free_named : {I O F : Type 0} {h : Host I O} {IsWhole : ℕ → List ℕ → Type 0} {part output bytes : List ℕ} {start s after : FileSystem} (path : List ℕ) (base : ℕ) → 0 < base → IsReady h IsWhole part output bytes start s → (naming : Naming)
-    → MovesIfFree (may_do {I = I} h) (folders_do {F = F} h) part path base s naming after → is_named naming ≡ true → HasOutput h IsWhole part path after.now
+    → MovesIfFree (may_do {I = I} h) (folders_do {F = F} h) part path base s naming after → is_named naming ≡ true → NewOutput h IsWhole part path start.now after.now
 if_free_named path base some r naming (spec.not_free place f nf is) named = not_named naming (NotFree place) is refl named
 if_free_named {I} {O} {F} {h} {IsWhole} {part} {output} {bytes} {start} {s} {after} path base some r naming (spec.free place looked f nf m) named =
     let same : looked ≡ s = finds (folders_do {F = F} h) (are_quiet h) path base s place looked f in
@@ -118,21 +139,21 @@ if_free_named {I} {O} {F} {h} {IsWhole} {part} {output} {bytes} {start} {s} {aft
     (subst (λ (x : FileSystem). HasWay h x.now path → at_path h x.now path ≡ None) (sym same) (free_nothing {F = F} h path base s place looked some f nf)) naming m named
 
 second_named : {I O F : Type 0} {h : Host I O} {IsWhole : ℕ → List ℕ → Type 0} {part output bytes : List ℕ} {start s after : FileSystem} (path : List ℕ) (base : ℕ) → 0 < base → IsReady h IsWhole part output bytes start s → (naming : Naming)
-    → GivesSecondName (may_do {I = I} h) (folders_do {F = F} h) part path base s naming after → is_named naming ≡ true → HasOutput h IsWhole part path after.now
+    → GivesSecondName (may_do {I = I} h) (folders_do {F = F} h) part path base s naming after → is_named naming ≡ true → NewOutput h IsWhole part path start.now after.now
 second_named path base some r naming (spec.no_part_text t is same) named = not_named naming Failed is refl named
 second_named path base some r naming (spec.no_text t u is same) named = not_named naming Failed is refl named
 second_named path base some r naming (spec.linked t u call is) named = linked_out path r call
 second_named {I} {O} {F} path base some r naming (spec.not_linked e tried t u call m) named = if_free_named {I = I} {F = F} path base some (then_steps r (quiet call)) naming m named
 
 pub name_given : {I O F : Type 0} {h : Host I O} {IsWhole : ℕ → List ℕ → Type 0} {part output bytes : List ℕ} {start s after : FileSystem} (path relative : List ℕ) → path ≡ below output relative → IsReady h IsWhole part output bytes start s → (naming : Naming)
-    → GivesName (may_do {I = I} h) (folders_do {F = F} h) part path (length output + 1) s naming after → is_named naming ≡ true → HasOutput h IsWhole part path after.now
+    → GivesName (may_do {I = I} h) (folders_do {F = F} h) part path (length output + 1) s naming after → is_named naming ≡ true → NewOutput h IsWhole part path start.now after.now
 name_given path relative is r naming (spec.no_way e m n) named = not_named naming Failed n refl named
 name_given {I} {O} {F} {h} {IsWhole} {part} {output} {bytes} {start} {s} {after} path relative is r naming (spec.on_its_way has_way m g) named =
     second_named {I = I} {F = F} path (length output + 1) (omega arith)
     (then_steps r (makes_way {F = F} h IsWhole part output (whole bytes) refl path relative is (length output + 1) (omega arith) s (Ok _) has_way m)) naming g named
 
 pub free_name_given : {I O F : Type 0} {h : Host I O} {IsWhole : ℕ → List ℕ → Type 0} {part output bytes : List ℕ} {start s after : FileSystem} (path relative : List ℕ) → path ≡ below output relative → IsReady h IsWhole part output bytes start s → (naming : Naming)
-    → GivesFreeName (may_do {I = I} h) (folders_do {F = F} h) part path (length output + 1) s naming after → is_named naming ≡ true → HasOutput h IsWhole part path after.now
+    → GivesFreeName (may_do {I = I} h) (folders_do {F = F} h) part path (length output + 1) s naming after → is_named naming ≡ true → NewOutput h IsWhole part path start.now after.now
 free_name_given path relative is r naming (instance.not_free place f nf e) named = not_named naming (NotFree place) e refl named
 free_name_given {I} {O} {F} {h} {IsWhole} {part} {output} {bytes} {start} {s} {after} path relative is r naming (instance.free place looked f nf g) named =
     name_given {I = I} {F = F} path relative is (then_steps r (quiet (finds (folders_do {F = F} h) (are_quiet h) path (length output + 1) s place looked f))) naming g named
@@ -161,10 +182,14 @@ clears_by h IsWhole part path before after (spec.no_text t is) out = still_out h
 clears_by h IsWhole part path before after (spec.removed (Ok u) t call) out = removed_out h IsWhole part path before after call out
 clears_by h IsWhole part path before after (spec.removed (Err e) t call) out = subst (λ (s : FileSystem). HasOutput h IsWhole part path s.now) (sym call) out
 
-pub cleared_out : {I O : Type 0} (h : Host I O) (IsWhole : ℕ → List ℕ → Type 0) (part path : List ℕ) (naming : Naming) (before after : FileSystem) → ClearsPart (may_do {I = I} h) naming part before after → HasOutput h IsWhole part path before.now
+cleared_out : {I O : Type 0} (h : Host I O) (IsWhole : ℕ → List ℕ → Type 0) (part path : List ℕ) (naming : Naming) (before after : FileSystem) → ClearsPart (may_do {I = I} h) naming part before after → HasOutput h IsWhole part path before.now
     → HasOutput h IsWhole part path after.now
 cleared_out h IsWhole part path naming before after (spec.moved is same) out = still_out h IsWhole part path before after same out
 cleared_out {I} h IsWhole part path naming before after (spec.removed is r) out = clears_by {I = I} h IsWhole part path before after r out
+
+pub cleared_new : {I O : Type 0} (h : Host I O) (IsWhole : ℕ → List ℕ → Type 0) (part path : List ℕ) (naming : Naming) (start : Tree) (before after : FileSystem) → ClearsPart (may_do {I = I} h) naming part before after → NewOutput h IsWhole part path start before.now
+    → NewOutput h IsWhole part path start after.now
+cleared_new {I} h IsWhole part path naming start before after clears new = record { out = cleared_out {I = I} h IsWhole part path naming before after clears new.out; nothing = new.nothing }
 
 -- ---- what is told of it
 

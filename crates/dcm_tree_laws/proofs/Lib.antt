@@ -23,6 +23,11 @@ pub mod Given
 pub mod Written
 pub mod WrittenBy
 pub mod OutputsBy
+pub mod DistinctBy
+pub mod Sure
+pub mod Left
+pub mod StillBy
+pub mod SharesBy
 pub mod Cleared
 pub mod ClearedBy
 pub mod PartsBy
