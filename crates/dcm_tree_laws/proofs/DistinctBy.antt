@@ -59,14 +59,14 @@ is_elsewhere h IsWhole part output name t [] none there = tt
 is_elsewhere h IsWhole part output name t (other ∷ names) none there =
     (other_place t (place_of h (below output name)) (place_of h (below output other)) there.0.file none there.0.is, is_elsewhere h IsWhole part output name t names none there.1)
 
-one_more_there : {I O : Type 0} (h : Host I O) (IsWhole : ℕ → List ℕ → Type 0) (part output name : List ℕ) (t u : Tree) (names : List (List ℕ)) (was : Bool) → (was ≡ true → NewOutput h IsWhole part (below output name) t u) → AreThere h IsWhole part output u names
+one_more_there : {I O : Type 0} (h : Host I O) (IsWhole : ℕ → List ℕ → Type 0) (part output name : List ℕ) (t u : Tree) (names : List (List ℕ)) (was : Bool) → (was ≡ true → NewOutput h IsWhole part output (below output name) t u) → AreThere h IsWhole part output u names
     → AreThere h IsWhole part output u (name_if was name ++ names)
-one_more_there h IsWhole part output name t u names true new there = ((new refl).out, there)
+one_more_there h IsWhole part output name t u names true new there = ((new refl).name.out, there)
 one_more_there h IsWhole part output name t u names false new there = there
 
-one_more_apart : {I O : Type 0} (h : Host I O) (IsWhole : ℕ → List ℕ → Type 0) (part output name : List ℕ) (t u : Tree) (names : List (List ℕ)) (was : Bool) → (was ≡ true → NewOutput h IsWhole part (below output name) t u) → AreThere h IsWhole part output t names → AreApart h output names
+one_more_apart : {I O : Type 0} (h : Host I O) (IsWhole : ℕ → List ℕ → Type 0) (part output name : List ℕ) (t u : Tree) (names : List (List ℕ)) (was : Bool) → (was ≡ true → NewOutput h IsWhole part output (below output name) t u) → AreThere h IsWhole part output t names → AreApart h output names
     → AreApart h output (name_if was name ++ names)
-one_more_apart h IsWhole part output name t u names true new there apart = (is_elsewhere h IsWhole part output name t names (new refl).nothing there, apart)
+one_more_apart h IsWhole part output name t u names true new there apart = (is_elsewhere h IsWhole part output name t names (new refl).name.nothing there, apart)
 one_more_apart h IsWhole part output name t u names false new there apart = apart
 
 -- ---- the rows so far
@@ -83,13 +83,13 @@ since_start : {I O : Type 0} (h : Host I O) (part path : List ℕ) (start now : 
 since_start h part path start now None is still apart none = is
 since_start h part path start now (Some f) is still apart none = absurd (none_some (at_path h now path) f none (still.there (place_of h path) f apart is))
 
-new_since : {I O : Type 0} (h : Host I O) (IsWhole : ℕ → List ℕ → Type 0) (part path : List ℕ) (start now after : Tree) → Still h part start now → NewOutput h IsWhole part path now after → at_path h start path ≡ None
-new_since h IsWhole part path start now after still new = since_start h part path start now (start.at (place_of h path)) refl still new.out.apart new.nothing
+new_since : {I O : Type 0} (h : Host I O) (IsWhole : ℕ → List ℕ → Type 0) (part output path : List ℕ) (start now after : Tree) → Still h part start now → NewOutput h IsWhole part output path now after → at_path h start path ≡ None
+new_since h IsWhole part output path start now after still new = since_start h part path start now (start.at (place_of h path)) refl still new.name.out.apart new.name.nothing
 
 visit_new : {I O F W E : Type 0} (h : Host I O) (IsWhole : ℕ → List ℕ → Type 0) (r : Reader I) (w : Writer O) (e : Writer E) (m : Writer W) (shared : Shared) (start : Tree) (headed : W) (from : Progress W) (told_before : E) (before : FileSystem) (n : Named) (what : What) (result : Result (Unit {0}) Stopped)
     (to : Progress W) (told : E) (after : FileSystem) → Still h (manner_of shared.manner).part start before.now → Stays h (manner_of shared.manner).part (manner_of shared.manner).output before.now after.now
     → ((done : Done) (mid : E) → DoesName (over {F = F} h r w e) (manner_of shared.manner) n what told_before before (Ok done) mid after → is_written done.fate ≡ true
-    → NewOutput h IsWhole (manner_of shared.manner).part (below (manner_of shared.manner).output (name_in n.relative done.instance)) before.now after.now)
+    → NewOutput h IsWhole (manner_of shared.manner).part (manner_of shared.manner).output (below (manner_of shared.manner).output (name_in n.relative done.instance)) before.now after.now)
     → (earlier visits : List Visit) → visits ≡ earlier ++ visit_of n what ∷ [] → VisitsName (over {F = F} h r w e) m shared from told_before before n what result to told after → to.stop ≡ None
     → (from.stop ≡ None → HasNew h IsWhole (manner_of shared.manner) start m shared headed earlier from.manifest before.now) → HasNew h IsWhole (manner_of shared.manner) start m shared headed visits to.manifest after.now
 visit_new h IsWhole r w e m shared start headed from told_before before n what result to told after still stays new earlier visits more (spec.of_another none is t same ok) stop had =
@@ -109,7 +109,7 @@ visit_new h IsWhole r w e m shared start headed from told_before before n what r
     let name : List ℕ = name_in n.relative done.instance in
     record {
       text = x.text ++ text;
-      rows = and_row earlier x.text (visit_of n what) done x.rows share (λ was. new_since h IsWhole k.part (below k.output name) start before.now after.now still (new done mid does was)) more refl;
+      rows = and_row earlier x.text (visit_of n what) done x.rows share (λ was. new_since h IsWhole k.part k.output (below k.output name) start before.now after.now still (new done mid does was)) more refl;
       manifest_is = same_manifest m to.manifest manifest headed (x.text ++ text) (ap (λ p. p.manifest) is)
           (one_more m from.manifest manifest headed x.text text (went_out m text from.manifest manifest puts) x.manifest_is);
       there = one_more_there h IsWhole k.part k.output name before.now after.now (outputs_of x.rows) (is_written done.fate) (new done mid does) (they_stay h IsWhole k.part k.output before.now after.now (outputs_of x.rows) stays x.there);

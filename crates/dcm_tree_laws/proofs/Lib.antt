@@ -19,6 +19,8 @@ pub mod OfRuns
 pub mod RowsBy
 pub mod Programs
 pub mod Forgets
+pub mod WholePart
+pub mod MadeWay
 pub mod Given
 pub mod Written
 pub mod WrittenBy
@@ -27,6 +29,8 @@ pub mod DistinctBy
 pub mod Sure
 pub mod Left
 pub mod StillBy
+pub mod MadeBy
+pub mod TwiceBy
 pub mod SharesBy
 pub mod Cleared
 pub mod ClearedBy

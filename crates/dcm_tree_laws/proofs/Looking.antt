@@ -39,7 +39,7 @@ finds_folder d quiet path before is_there after (by_looking seen l is) = looks d
 pub same_ok : {A E : Type 0} (r : Result A E) (a b : A) → r ≡ Ok a → r ≡ Ok b → b ≡ a
 same_ok r a b e f = cc
 
-seen_is : {I O F : Type 0} (h : Host I O) (path : List ℕ) (before : FileSystem) (found : Option Found) (after : FileSystem) → Looks (folders_do {F = F} h) path before (Ok found) after → at_path h before.now path ≡ found
+pub seen_is : {I O F : Type 0} (h : Host I O) (path : List ℕ) (before : FileSystem) (found : Option Found) (after : FileSystem) → Looks (folders_do {F = F} h) path before (Ok found) after → at_path h before.now path ≡ found
 seen_is h path before found after (no_text u t is same) = absurd (cc)
 seen_is h path before found after (looked f t call is) = sym call.0 ∙ same_ok (Ok found) found f refl is
 seen_is h path before found after (not_looked e u t call is) = absurd (cc)

@@ -122,7 +122,7 @@ visits_good {I} {O} {F} {W} {E} h links Of start r w e m shared headed of_output
           (visit_rows (over {F = F} h r w e) m here headed (Written h Of manner before.now) (Written h Of manner after.now)
           (λ x done out written. stays_out h (Of x) manner.part manner.output _ before.now after.now left.stays (out written)) _ from.0.1 before n what result _ to.0.1 after
           (λ done mid does written. (name_out {F = F} h (Of (visit_of n what)) r w e manner n what from.0.1 before before (Ok done) mid after done (λ mode is. known.right n what mode before known.still v.1 is)
-          (record { none = good.none; of_output = known.of_output; steps = no_step refl refl }) does refl written).out)
+          (record { none = good.none; of_output = known.of_output; steps = no_step refl refl }) does refl written).name.out)
           from.1 to.1 v.0.1 v.0.0.0 stop
           (λ none. by_shared h Of m headed from.1 from.0.0.manifest before.now shared here (sym good.same) (good.rows none)));
     }

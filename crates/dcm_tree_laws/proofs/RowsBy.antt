@@ -51,7 +51,7 @@ one_more m from to headed rows text put is = put ∙ ap (λ (known : Option (Lis
 
 -- ---- a visit
 
-rows_kept : (Old New : Visit → Done → Type 0) (shared : Shared) (keep : (v : Visit) (done : Done) → Old v done → New v done) (visits : List Visit) (text : List ℕ) → RowsOf Old shared visits text → RowsOf New shared visits text
+pub rows_kept : (Old New : Visit → Done → Type 0) (shared : Shared) (keep : (v : Visit) (done : Done) → Old v done → New v done) (visits : List Visit) (text : List ℕ) → RowsOf Old shared visits text → RowsOf New shared visits text
 rows_kept Old New shared keep visits text (no_visit v t) = no_visit v t
 rows_kept Old New shared keep visits text (of_another earlier v rows none more) = of_another earlier v (rows_kept Old New shared keep earlier text rows) none more
 rows_kept Old New shared keep visits text (and_row earlier rest v done rows share so more is) = and_row earlier rest v done (rows_kept Old New shared keep earlier rest rows) share (keep v done so) more is

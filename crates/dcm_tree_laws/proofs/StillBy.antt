@@ -106,11 +106,11 @@ record Goes (k : Manner) : Type 0 where
   goes : k.continues ≡ true
   keeps : k.keeps_names ≡ true
 
-before_all : (Is : Visit → Type 0) (earlier : List Visit) (v : Visit) → OfAll Is (earlier ++ v ∷ []) → OfAll Is earlier
+pub before_all : (Is : Visit → Type 0) (earlier : List Visit) (v : Visit) → OfAll Is (earlier ++ v ∷ []) → OfAll Is earlier
 before_all Is [] v all = tt
 before_all Is (x ∷ earlier) v all = (all.0, before_all Is earlier v all.1)
 
-last_of_all : (Is : Visit → Type 0) (earlier : List Visit) (v : Visit) → OfAll Is (earlier ++ v ∷ []) → Is v
+pub last_of_all : (Is : Visit → Type 0) (earlier : List Visit) (v : Visit) → OfAll Is (earlier ++ v ∷ []) → Is v
 last_of_all Is [] v all = all.0
 last_of_all Is (x ∷ earlier) v all = last_of_all Is earlier v all.1
 

@@ -34,13 +34,13 @@ use Rattle.dcm_tree_laws.proofs.Written.{IsIdle, GivesOutput, OpenGives, FileGiv
 
 -- the output of what became of a name, where one was written
 abbrev OutputOf : {I O : Type 0} → Host I O → (ℕ → List ℕ → Type 0) → Manner → (relative : List ℕ) → Done → (start s : FileSystem) → Type 0
-OutputOf h IsWhole m relative done start s = NewOutput h IsWhole m.part (below m.output (name_in relative done.instance)) start.now s.now
+OutputOf h IsWhole m relative done start s = NewOutput h IsWhole m.part m.output (below m.output (name_in relative done.instance)) start.now s.now
 
 placed_out : {I O F E : Type 0} (h : Host I O) (IsWhole : ℕ → List ℕ → Type 0) (r : Reader I) (w : Writer O) (e : Writer E) (m : Manner) (name path relative bytes : List ℕ) → path ≡ below m.output relative → (fate : Fate) (from : E) (start before : FileSystem) (became : Fate) (to : E) (after : FileSystem)
-    → IsReady h IsWhole m.part m.output bytes start before → PlacesPart (over {F = F} h r w e) m name path fate from before became to after → is_written became ≡ true → NewOutput h IsWhole m.part path start.now after.now
+    → IsReady h IsWhole m.part m.output bytes start before → PlacesPart (over {F = F} h r w e) m name path fate from before became to after → is_written became ≡ true → NewOutput h IsWhole m.part m.output path start.now after.now
 placed_out {I} {O} {F} h IsWhole r w e m name path relative bytes is fate from start before became to after ready p written =
-    cleared_new {I = I} h IsWhole m.part path p.naming start.now p.compared after p.clears
-    (subst (λ (s : FileSystem). NewOutput h IsWhole m.part path start.now s.now) (sym (finds_copy h r p.naming m.part path p.named p.same p.compared p.copy))
+    cleared_new {I = I} h IsWhole m.part m.output path p.naming start.now p.compared after p.clears
+    (subst (λ (s : FileSystem). NewOutput h IsWhole m.part m.output path start.now s.now) (sym (finds_copy h r p.naming m.part path p.named p.same p.compared p.copy))
     (free_name_given {I = I} {F = F} path relative is ready p.naming p.gives (written_named p.naming fate p.same (sym (ap is_written p.becomes) ∙ written))))
 
 -- of a fate without a name
@@ -52,7 +52,7 @@ by_out : {I O F E : Type 0} (h : Host I O) (IsWhole : ℕ → List ℕ → Type 
 by_out h IsWhole r w e m name relative bytes i fate from start before done to after ready (instance.too_long none removes told is) written = no_output done fates.Unwritten is refl written
 by_out {I} {O} {F} h IsWhole r w e m name relative bytes i fate from start before done to after ready (instance.placed path became items is places rel d) written =
     subst (λ (x : Done). OutputOf h IsWhole m relative x start after) (sym d)
-    (at_name h IsWhole m.part path (below m.output items.items) start after (path_is m.output (name_of_instance i) path is ∙ ap (below m.output) (sym rel))
+    (at_name h IsWhole m.part m.output path (below m.output items.items) start after (path_is m.output (name_of_instance i) path is ∙ ap (below m.output) (sym rel))
     (placed_out {F = F} h IsWhole r w e m name path (name_of_instance i) bytes (path_is m.output (name_of_instance i) path is) fate from start before became to after ready places (ap (λ (x : Done). is_written x.fate) (sym d) ∙ written)))
 
 part_out : {I O F E : Type 0} (h : Host I O) (IsWhole : ℕ → List ℕ → Type 0) (r : Reader I) (w : Writer O) (e : Writer E) (m : Manner) (name relative bytes : List ℕ) (fate : Fate) (from : E) (start before : FileSystem) (done : Done) (to : E) (after : FileSystem)

@@ -21,6 +21,7 @@ use Rattle.dcm_trees.specs.declared.file.Done.{Done}
 use Rattle.dcm_trees.specs.declared.part.PartThere.{PartThere}
 use Rattle.dcm_trees.specs.declared.progress.Shared.{Shared}
 use Rattle.dcm_trees.specs.declared.run.TreeRun.{TreeRun}
+use Rattle.dcm_trees.specs.Fate.{is_written}
 use Rattle.dcm_trees.specs.File.{DoesName, is_media_index}
 use Rattle.dcm_trees.specs.Manner.{Manner}
 use Rattle.dcm_trees.specs.Share.{is_of}
@@ -28,7 +29,7 @@ use Rattle.dcm_trees.specs.Tree.{VisitsAll, VisitsListed}
 use Rattle.dcm_trees.specs.Work.{visits_of}
 use Rattle.dcm_trees.specs.World.{World, world}
 use Rattle.dcm_tree_laws.specs.FileSystem.{FileSystem, Tree, Host, at_path, may_do, folders_do}
-use Rattle.dcm_tree_laws.specs.Laws.{part_path}
+use Rattle.dcm_tree_laws.specs.Laws.{over, part_path}
 use Rattle.dcm_tree_laws.specs.OneRow.{RowsOf}
 use Rattle.dcm_tree_laws.specs.Rows.{Visit, noted}
 
@@ -182,3 +183,57 @@ AgainIsStillOfList {I} {O} {W} {E} F reader output m errors =
     left to after read)
     → v.last.stop ≡ None
     → ListIsStill h reader output m errors run list begun input headed from before status left to after read v
+
+-- ---- what a run leaves to the next one
+
+-- what became of a name in a run says that its output was written only where the next run finds it by that name
+abbrev pub WasMade : {I O : Type 0} → Host I O → (output : List ℕ) → (now : Tree) → Visit → Done → Type 0
+WasMade h output now v done = is_written done.fate ≡ true → IsThere h output v.named.relative now
+
+-- the names in a folder were visited, these in this order; the manifest has their rows, and what these say was written
+-- is there
+pub record FolderHasMade {I O F W E : Type 0} (h : Host I O) (reader : Reader I) (output : Writer O) (m : Writer W)
+    (errors : Writer E) (run : TreeRun) (path : List ℕ) (begun : Begun) (opened : F) (headed : W) (from : E)
+    (before : FileSystem) (status : ℕ) (left : W) (to : E) (after : FileSystem)
+    (v : VisitsAll (over h reader output errors) m run path begun opened headed from before status left to after)
+    : Type 0 where
+  pub visits : List Visit
+  pub text : List ℕ
+  pub walks : WalksFolder (folders_do {F = F} h)
+      (noted (visits_of (over {F = F} h reader output errors) m)) path begun.number
+      opened ((v.start, from), []) before v.walked ((v.last, v.told), visits) after
+  pub rows : RowsOf (WasMade h run.output.now after.now) v.start.shared visits text
+  pub manifest : m.contents left ≡ append_known (m.contents headed) text
+
+pub record ListHasMade {I O F W E : Type 0} (h : Host I O) (reader : Reader I) (output : Writer O) (m : Writer W)
+    (errors : Writer E) (run : TreeRun) (list : List ℕ) (begun : Begun) (input : I) (headed : W) (from : E)
+    (before : FileSystem) (status : ℕ) (left : W) (to : E) (after : FileSystem) (read : I)
+    (v : VisitsListed (over {F = F} h reader output errors) m run list begun input headed from before status left to
+    after read)
+    : Type 0 where
+  pub visits : List Visit
+  pub text : List ℕ
+  pub walks : WalksList (folders_do {F = F} h) (noted (visits_of (over {F = F} h reader output errors) m)) reader.gets
+      begun.number ((v.start, from), []) before input v.walked ((v.last, v.told), visits) after read
+  pub rows : RowsOf (WasMade h run.output.now after.now) v.start.shared visits text
+  pub manifest : m.contents left ≡ append_known (m.contents headed) text
+
+-- at the end of a run that keeps names, was begun, and did not end before its last name, whatever calls fail
+abbrev pub MadeIsThere : {I O W E : Type 0} → (F : Type 0) → Reader I → Writer O → Writer W → Writer E → Type 0
+MadeIsThere {I} {O} {W} {E} F reader output m errors =
+    (h : Host I O) (run : TreeRun) (path : List ℕ) (begun : Begun) (opened : F) (headed : W) (from : E)
+    (before : FileSystem) (status : ℕ) (left : W) (to : E) (after : FileSystem) → run.options.keeps_names ≡ true
+    → before.written ≡ None → begun.part.items ≡ part_path run
+    → (v : VisitsAll (over h reader output errors) m run path begun opened headed from before status left to after)
+    → v.last.stop ≡ None
+    → FolderHasMade h reader output m errors run path begun opened headed from before status left to after v
+
+abbrev pub MadeIsThereOfList : {I O W E : Type 0} → (F : Type 0) → Reader I → Writer O → Writer W → Writer E → Type 0
+MadeIsThereOfList {I} {O} {W} {E} F reader output m errors =
+    (h : Host I O) (run : TreeRun) (list : List ℕ) (begun : Begun) (input : I) (headed : W) (from : E)
+    (before : FileSystem) (status : ℕ) (left : W) (to : E) (after : FileSystem) (read : I)
+    → run.options.keeps_names ≡ true → before.written ≡ None → begun.part.items ≡ part_path run
+    → (v : VisitsListed (over {F = F} h reader output errors) m run list begun input headed from before status left
+    to after read)
+    → v.last.stop ≡ None
+    → ListHasMade h reader output m errors run list begun input headed from before status left to after read v

@@ -7,6 +7,7 @@ pub mod OneRow
 pub mod Outputs
 pub mod Distinct
 pub mod Again
+pub mod Twice
 pub mod Part
 pub mod Single
 pub mod Shares

@@ -1,6 +1,6 @@
 //! Laws of the definitions. Each function takes nothing and makes no call: its contract is the law.
 ghost use Rattle.dcm_trees.specs.World.{world};
-ghost use Rattle.dcm_tree_laws.specs.Again.{AgainIsStill, AgainIsStillOfList, ThereIsLeft};
+ghost use Rattle.dcm_tree_laws.specs.Again.{AgainIsStill, AgainIsStillOfList, MadeIsThere, MadeIsThereOfList, ThereIsLeft};
 ghost use Rattle.dcm_tree_laws.specs.Distinct.{OutputsAreDistinct, OutputsAreDistinctOfList};
 ghost use Rattle.dcm_tree_laws.specs.Laws.{NeverHalf, NeverHalfByWords, OthersStay, OthersStayByWords};
 ghost use Rattle.dcm_tree_laws.specs.OneRow.{OneRow, OneRowOfList};
@@ -8,6 +8,7 @@ ghost use Rattle.dcm_tree_laws.specs.Outputs.{WrittenIsThere, WrittenIsThereOfLi
 ghost use Rattle.dcm_tree_laws.specs.Part.{NoPartAfterRun, NoPartLeft, NoPartLeftByList};
 ghost use Rattle.dcm_tree_laws.specs.Shares.{ManifestOfShare, OneOutput, OneShare, RowsOfRuns};
 ghost use Rattle.dcm_tree_laws.specs.Single.{SingleRuns, SingleRunsOfList};
+ghost use Rattle.dcm_tree_laws.specs.Twice.{SecondIsStill};
 
 use dcm_base::{DeviceIn, DeviceOut};
 use dcm_files::Folders;
@@ -66,11 +67,14 @@ pub fn outputs_are_single_runs<I: DeviceIn, O: DeviceOut, W: DeviceOut, E: Devic
     ensures list { SingleRunsOfList F I.DeviceIn O.DeviceOut W.DeviceOut E.DeviceOut }
 {}
 
-/// A run that goes on and keeps names leaves the outputs that are there. The row of such a name is `there`, nothing is
-/// told, and no call is made but to look. Where the outputs of all files of its share were there, a run changes nothing
-/// at any time. So it is where no look fails.
+/// A run that goes on and keeps names leaves the outputs that are there, as those that the run before it wrote. The row
+/// of such a name is `there`, nothing is told, and no call is made but to look. Where the outputs of all files of its
+/// share are there, as after a first run that wrote them, it changes nothing at any time. So it is where no look fails.
 pub fn again_is_still<I: DeviceIn, O: DeviceOut, W: DeviceOut, E: DeviceOut, F>()
+    ensures made { MadeIsThere F I.DeviceIn O.DeviceOut W.DeviceOut E.DeviceOut }
+    ensures made_by_list { MadeIsThereOfList F I.DeviceIn O.DeviceOut W.DeviceOut E.DeviceOut }
     ensures name { ThereIsLeft F I.DeviceIn O.DeviceOut E.DeviceOut }
+    ensures twice { SecondIsStill F I.DeviceIn O.DeviceOut W.DeviceOut E.DeviceOut }
     ensures folder { AgainIsStill F I.DeviceIn O.DeviceOut W.DeviceOut E.DeviceOut }
     ensures list { AgainIsStillOfList F I.DeviceIn O.DeviceOut W.DeviceOut E.DeviceOut }
 {}
