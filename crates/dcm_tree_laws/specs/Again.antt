@@ -96,9 +96,9 @@ abbrev pub left_there : Done
 left_there = record { fate = There; instance = None }
 
 -- it is left as it is: it has that row, nothing is told, nothing is changed, and only looks are made
-pub record IsLeft {I O E : Type 0} (F : Type 0) (h : Host I O) (reader : Reader I) (output : Writer O) (errors : Writer E)
-    (m : Manner) (n : Named) (mode : ℕ) (from : E) (before : FileSystem) (r : Result Done PartThere) (to : E)
-    (after : FileSystem) : Type 0 where
+pub record IsLeft {I O E : Type 0} (F : Type 0) (h : Host I O) (reader : Reader I) (output : Writer O)
+    (errors : Writer E) (m : Manner) (n : Named) (mode : ℕ) (from : E) (before : FileSystem) (r : Result Done PartThere)
+    (to : E) (after : FileSystem) : Type 0 where
   pub row : r ≡ Ok left_there
   pub told : Reports errors from to []
   pub same : after ≡ before

@@ -1,6 +1,7 @@
 //! Laws of the definitions. Each function takes nothing and makes no call: its contract is the law.
 ghost use Rattle.dcm_trees.specs.World.{world};
-ghost use Rattle.dcm_tree_laws.specs.Again.{AgainIsStill, AgainIsStillOfList, MadeIsThere, MadeIsThereOfList, ThereIsLeft};
+ghost use Rattle.dcm_tree_laws.specs.Again.{AgainIsStill, AgainIsStillOfList, ThereIsLeft};
+ghost use Rattle.dcm_tree_laws.specs.Again.{MadeIsThere, MadeIsThereOfList};
 ghost use Rattle.dcm_tree_laws.specs.Distinct.{OutputsAreDistinct, OutputsAreDistinctOfList};
 ghost use Rattle.dcm_tree_laws.specs.Laws.{NeverHalf, NeverHalfByWords, OthersStay, OthersStayByWords};
 ghost use Rattle.dcm_tree_laws.specs.OneRow.{OneRow, OneRowOfList};
@@ -44,8 +45,9 @@ pub fn written_is_there<I: DeviceIn, O: DeviceOut, W: DeviceOut, E: DeviceOut, F
     ensures list { WrittenIsThereOfList F I.DeviceIn O.DeviceOut W.DeviceOut E.DeviceOut }
 {}
 
-/// The outputs that the rows of a run say were written are new and distinct. At the path of each was nothing at the start
-/// of its names, and no two of them are at one place. So it is under the conditions of `written_is_there`.
+/// The outputs that the rows of a run say were written are new and distinct. At the path of each was nothing when its
+/// names were begun, and no two of them are at one place. So it is of a run that was begun and did not end before its
+/// last name.
 pub fn outputs_are_distinct<I: DeviceIn, O: DeviceOut, W: DeviceOut, E: DeviceOut, F>()
     ensures folder { OutputsAreDistinct F I.DeviceIn O.DeviceOut W.DeviceOut E.DeviceOut }
     ensures list { OutputsAreDistinctOfList F I.DeviceIn O.DeviceOut W.DeviceOut E.DeviceOut }
@@ -67,9 +69,10 @@ pub fn outputs_are_single_runs<I: DeviceIn, O: DeviceOut, W: DeviceOut, E: Devic
     ensures list { SingleRunsOfList F I.DeviceIn O.DeviceOut W.DeviceOut E.DeviceOut }
 {}
 
-/// A run that goes on and keeps names leaves the outputs that are there, as those that the run before it wrote. The row
+/// A run that goes on and keeps names leaves the outputs that are there, as those that a run before it wrote. The row
 /// of such a name is `there`, nothing is told, and no call is made but to look. Where the outputs of all files of its
-/// share are there, as after a first run that wrote them, it changes nothing at any time. So it is where no look fails.
+/// share are there, as after a first run that wrote them, it changes nothing at any time. So it is where no look
+/// fails.
 pub fn again_is_still<I: DeviceIn, O: DeviceOut, W: DeviceOut, E: DeviceOut, F>()
     ensures made { MadeIsThere F I.DeviceIn O.DeviceOut W.DeviceOut E.DeviceOut }
     ensures made_by_list { MadeIsThereOfList F I.DeviceIn O.DeviceOut W.DeviceOut E.DeviceOut }
@@ -79,8 +82,8 @@ pub fn again_is_still<I: DeviceIn, O: DeviceOut, W: DeviceOut, E: DeviceOut, F>(
     ensures list { AgainIsStillOfList F I.DeviceIn O.DeviceOut W.DeviceOut E.DeviceOut }
 {}
 
-/// Runs that share a tree have each name once. Each relative name is of exactly one of the shares 1 to N of N. Where the
-/// same becomes of each name as in one run, the rows of the N runs together are its rows, in another order. What a
+/// Runs that share a tree have each name once. Each relative name is of exactly one of the shares 1 to N of N. Where
+/// the same becomes of each name as in one run, the rows of the N runs together are its rows, in another order. What a
 /// single run writes of a file is one, so that a share writes the same.
 pub fn names_are_shared()
     ensures share { OneShare }
