@@ -45,7 +45,7 @@ step_past {before = before} {after = after} past (removed rest r is) = (before.n
 step_past past (not_removed rest same is) = (past, not_removed rest (ap (with_past past) same) is)
 step_past past (left rest same is) = (past, left rest (ap (with_past past) same) is)
 
-steps_past : {I O : Type 0} {h : Host I O} {IsWhole : ℕ → List ℕ → Type 0} {part output : List ℕ} {at : Phase} {before : FileSystem} {then : Phase} {after : FileSystem} (past : List Tree) → Steps h IsWhole part output at before then after
+pub steps_past : {I O : Type 0} {h : Host I O} {IsWhole : ℕ → List ℕ → Type 0} {part output : List ℕ} {at : Phase} {before : FileSystem} {then : Phase} {after : FileSystem} (past : List Tree) → Steps h IsWhole part output at before then after
     → (more : List Tree) × Steps h IsWhole part output at (with_past past before) then (with_past more after)
 steps_past past (no_step p s) = (past, no_step p (ap (with_past past) s))
 steps_past past (and_step b m more last) =

@@ -18,11 +18,11 @@ looks d quiet path before seen after (no_text u t is same) = same
 looks d quiet path before seen after (looked found t call is) = quiet.finds before path Kept (Ok found) after call
 looks d quiet path before seen after (not_looked e u t call is) = quiet.finds before path Kept (Err e) after call
 
-folders : {S O F : Type 0} (d : FoldersDo S O F) → Quiet d → (path : List ℕ) (base : ℕ) (before : S) (at : ℕ) (after : S) → AreFolders d path base before at after → after ≡ before
+pub folders : {S O F : Type 0} (d : FoldersDo S O F) → Quiet d → (path : List ℕ) (base : ℕ) (before : S) (at : ℕ) (after : S) → AreFolders d path base before at after → after ≡ before
 folders d quiet path base before at after (none_yet a s) = s
 folders d quiet path base before at after (and_folder from size seen mid more slash l e a) = looks d quiet (take (from + size) path) mid seen after l ∙ folders d quiet path base before from mid more
 
-along : {S O F : Type 0} (d : FoldersDo S O F) → Quiet d → (path : List ℕ) (base : ℕ) (before : S) (way : _) (after : S) → LooksAlong d path base before way after → after ≡ before
+pub along : {S O F : Type 0} (d : FoldersDo S O F) → Quiet d → (path : List ℕ) (base : ℕ) (before : S) (way : _) (after : S) → LooksAlong d path base before way after → after ≡ before
 along d quiet path base before way after (to_its_end at f slash is) = folders d quiet path base before at after f
 along d quiet path base before way after (ended at size seen end mid f slash l e is) = looks d quiet (take (at + size) path) mid seen after l ∙ folders d quiet path base before at mid f
 
@@ -39,7 +39,7 @@ finds_folder d quiet path before is_there after (by_looking seen l is) = looks d
 pub same_ok : {A E : Type 0} (r : Result A E) (a b : A) → r ≡ Ok a → r ≡ Ok b → b ≡ a
 same_ok r a b e f = cc
 
-seen_is : {I O F : Type 0} (h : Host I O) (path : List ℕ) (before : FileSystem) (found : Option Found) (after : FileSystem) → Looks (folders_do {F = F} h) path before (Ok found) after → at_path h before.now path ≡ found
+pub seen_is : {I O F : Type 0} (h : Host I O) (path : List ℕ) (before : FileSystem) (found : Option Found) (after : FileSystem) → Looks (folders_do {F = F} h) path before (Ok found) after → at_path h before.now path ≡ found
 seen_is h path before found after (no_text u t is same) = absurd (cc)
 seen_is h path before found after (looked f t call is) = sym call.0 ∙ same_ok (Ok found) found f refl is
 seen_is h path before found after (not_looked e u t call is) = absurd (cc)
@@ -66,7 +66,7 @@ is_nothing (Err u) e = absurd (cc)
 
 -- ---- a name that is free
 
-beyond : {S O F : Type 0} (d : FoldersDo S O F) (path : List ℕ) (base : ℕ) (before : S) (at : ℕ) (after : S) → AreFolders d path base before at after → base ≤ at
+pub beyond : {S O F : Type 0} (d : FoldersDo S O F) (path : List ℕ) (base : ℕ) (before : S) (at : ℕ) (after : S) → AreFolders d path base before at after → base ≤ at
 beyond d path base before at after (none_yet a s) = omega (arith, a)
 beyond d path base before at after (and_folder from size seen mid more slash l e a) = let least : base ≤ from = beyond d path base before from mid more in omega (arith, a, least)
 

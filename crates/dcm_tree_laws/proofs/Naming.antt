@@ -46,7 +46,7 @@ moves_if_free {I} {O} {F} h IsWhole part output bytes path to base some before n
     (moves_part {I = I} h IsWhole part output bytes path to looked
     (subst (λ (s : FileSystem). HasWay h s.now path → at_path h s.now path ≡ None) (sym same) (free_nothing {F = F} h path base before place looked some f nf)) naming after m)
 
-gives_second : {I O F : Type 0} (h : Host I O) (IsWhole : ℕ → List ℕ → Type 0) (part output bytes path : List ℕ) → IsOfOutput output path → (base : ℕ) → 0 < base → (before : FileSystem) (naming : Naming) (after : FileSystem)
+pub gives_second : {I O F : Type 0} (h : Host I O) (IsWhole : ℕ → List ℕ → Type 0) (part output bytes path : List ℕ) → IsOfOutput output path → (base : ℕ) → 0 < base → (before : FileSystem) (naming : Naming) (after : FileSystem)
     → GivesSecondName (may_do {I = I} h) (folders_do {F = F} h) part path base before naming after → Steps h IsWhole part output (whole bytes) before (phase_of bytes naming) after
 gives_second h IsWhole part output bytes path to base some before naming after (spec.no_part_text t is same) = by_naming bytes naming Failed is (quiet same)
 gives_second h IsWhole part output bytes path to base some before naming after (spec.no_text t u is same) = by_naming bytes naming Failed is (quiet same)

@@ -40,7 +40,7 @@ use Rattle.dcm_tree_laws.proofs.WrittenBy.{name_out}
 
 -- ---- an output stays
 
-stays_out : {I O : Type 0} (h : Host I O) (IsWhole : ℕ → List ℕ → Type 0) (part output path : List ℕ) (t u : Tree) → Stays h part output t u → HasOutput h IsWhole part path t → HasOutput h IsWhole part path u
+pub stays_out : {I O : Type 0} (h : Host I O) (IsWhole : ℕ → List ℕ → Type 0) (part output path : List ℕ) (t u : Tree) → Stays h part output t u → HasOutput h IsWhole part path t → HasOutput h IsWhole part path u
 stays_out h IsWhole part output path t u stays out = record {
   file = out.file;
   is = stays.there (place_of h path) out.file out.apart out.is;
@@ -64,7 +64,7 @@ pub record Still {I O : Type 0} (h : Host I O) (part : List ℕ) (start now : Tr
   pub there : (place : List ℕ) (f : Found) → place ≢ place_of h part → start.at place ≡ Some f → now.at place ≡ Some f
   pub bytes : (place : List ℕ) (f : Found) → place ≢ place_of h part → start.at place ≡ Some f → now.bytes (number_of f) ≡ start.bytes (number_of f)
 
-then_stays : {I O : Type 0} (h : Host I O) (part output : List ℕ) (start t u : Tree) → Still h part start t → Stays h part output t u → Still h part start u
+pub then_stays : {I O : Type 0} (h : Host I O) (part output : List ℕ) (start t u : Tree) → Still h part start t → Stays h part output t u → Still h part start u
 then_stays h part output start t u still stays = record {
   there = λ place f apart at. stays.there place f apart (still.there place f apart at);
   bytes = λ place f apart at. stays.bytes place f apart (still.there place f apart at) ∙ still.bytes place f apart at;
@@ -121,8 +121,8 @@ visits_good {I} {O} {F} {W} {E} h links Of start r w e m shared headed of_output
       rows = λ stop. by_shared h Of m headed to.1 to.0.0.manifest after.now here shared good.same
           (visit_rows (over {F = F} h r w e) m here headed (Written h Of manner before.now) (Written h Of manner after.now)
           (λ x done out written. stays_out h (Of x) manner.part manner.output _ before.now after.now left.stays (out written)) _ from.0.1 before n what result _ to.0.1 after
-          (λ done mid does written. name_out {F = F} h (Of (visit_of n what)) r w e manner n what from.0.1 before before (Ok done) mid after done (λ mode is. known.right n what mode before known.still v.1 is)
-          (record { none = good.none; of_output = known.of_output; steps = no_step refl refl }) does refl written)
+          (λ done mid does written. (name_out {F = F} h (Of (visit_of n what)) r w e manner n what from.0.1 before before (Ok done) mid after done (λ mode is. known.right n what mode before known.still v.1 is)
+          (record { none = good.none; of_output = known.of_output; steps = no_step refl refl }) does refl written).name.out)
           from.1 to.1 v.0.1 v.0.0.0 stop
           (λ none. by_shared h Of m headed from.1 from.0.0.manifest before.now shared here (sym good.same) (good.rows none)));
     }

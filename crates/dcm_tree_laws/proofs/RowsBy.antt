@@ -34,24 +34,24 @@ pub record HasRows {W : Type 0} (m : Writer W) (IsSo : Visit → Done → Type 0
 abbrev pub visit_of : Named → What → Visit
 visit_of n what = record { named = n; what = what }
 
-went_out : {W : Type 0} (m : Writer W) (text : List ℕ) (from to : W) → PutsRow m text from (Ok _) to → m.contents to ≡ append_known (m.contents from) text
+pub went_out : {W : Type 0} (m : Writer W) (text : List ℕ) (from to : W) → PutsRow m text from (Ok _) to → m.contents to ≡ append_known (m.contents from) text
 went_out m text from to (spec.put contents failed flushed is) = contents
 went_out m text from to (spec.not_put e front failed is) = absurd (cc)
 went_out m text from to (spec.not_flushed e contents failed room is) = absurd (cc)
 
-no_stop : (stop : Option Stop) (why : Stop) → stop ≡ Some why → stop ≡ None → ⊥
+pub no_stop : (stop : Option Stop) (why : Stop) → stop ≡ Some why → stop ≡ None → ⊥
 no_stop stop why is none = absurd (cc)
 
 pub same_manifest : {W : Type 0} (m : Writer W) (a b headed : W) (text : List ℕ) → a ≡ b → m.contents b ≡ append_known (m.contents headed) text → m.contents a ≡ append_known (m.contents headed) text
 same_manifest m a b headed text e is = ap m.contents e ∙ is
 
-one_more : {W : Type 0} (m : Writer W) (from to headed : W) (rows text : List ℕ) → m.contents to ≡ append_known (m.contents from) text → m.contents from ≡ append_known (m.contents headed) rows
+pub one_more : {W : Type 0} (m : Writer W) (from to headed : W) (rows text : List ℕ) → m.contents to ≡ append_known (m.contents from) text → m.contents from ≡ append_known (m.contents headed) rows
     → m.contents to ≡ append_known (m.contents headed) (rows ++ text)
 one_more m from to headed rows text put is = put ∙ ap (λ (known : Option (List ℕ)). append_known known text) is ∙ append_known_twice (m.contents headed) rows text
 
 -- ---- a visit
 
-rows_kept : (Old New : Visit → Done → Type 0) (shared : Shared) (keep : (v : Visit) (done : Done) → Old v done → New v done) (visits : List Visit) (text : List ℕ) → RowsOf Old shared visits text → RowsOf New shared visits text
+pub rows_kept : (Old New : Visit → Done → Type 0) (shared : Shared) (keep : (v : Visit) (done : Done) → Old v done → New v done) (visits : List Visit) (text : List ℕ) → RowsOf Old shared visits text → RowsOf New shared visits text
 rows_kept Old New shared keep visits text (no_visit v t) = no_visit v t
 rows_kept Old New shared keep visits text (of_another earlier v rows none more) = of_another earlier v (rows_kept Old New shared keep earlier text rows) none more
 rows_kept Old New shared keep visits text (and_row earlier rest v done rows share so more is) = and_row earlier rest v done (rows_kept Old New shared keep earlier rest rows) share (keep v done so) more is
@@ -81,8 +81,11 @@ visit_rows w m shared headed Old New keep from told_before before n what r to to
     absurd (no_stop to.stop _ (ap (λ p. p.stop) is) stop)
 visit_rows w m shared headed Old New keep from told_before before n what r to told after make earlier visits more (spec.part_there p s share does is ok) stop had = absurd (no_stop to.stop _ (ap (λ q. q.stop) is) stop)
 
+pub no_manifest : {W : Type 0} (m : Writer W) (start headed : W) → start ≡ headed → m.contents start ≡ append_known (m.contents headed) []
+no_manifest m start headed is = same_manifest m start headed headed [] is (sym (append_known_none (m.contents headed)))
+
 pub no_rows : {W : Type 0} (m : Writer W) (IsSo : Visit → Done → Type 0) (shared : Shared) (headed start : W) → start ≡ headed → HasRows m IsSo shared headed [] start
-no_rows m IsSo shared headed start is = record { text = []; rows = no_visit refl refl; manifest_is = same_manifest m start headed headed [] is (sym (append_known_none (m.contents headed))) }
+no_rows m IsSo shared headed start is = record { text = []; rows = no_visit refl refl; manifest_is = no_manifest m start headed is }
 
 -- ---- all of them
 

@@ -28,7 +28,7 @@ not_empty path at size some slash empty =
     omega (arith, some, slash.0, length-drop at path, length-take (at + size) path, none)
 
 -- the folders on the way to an output are of the folder of the outputs
-within_output : (output relative : List ℕ) (m k : ℕ) → m ≡ length (output ++ codes "/") + k → take m (below output relative) ≡ below output (take k relative)
+pub within_output : (output relative : List ℕ) (m k : ℕ) → m ≡ length (output ++ codes "/") + k → take m (below output relative) ≡ below output (take k relative)
 within_output output relative m k is = ap (λ (n : ℕ). take n (below output relative)) is ∙ take-append-add (output ++ codes "/") relative k
 
 pub way_is_of_output : (output relative path : List ℕ) (m : ℕ) → path ≡ below output relative → length output + 1 ≤ m → IsOfOutput output (take m path)

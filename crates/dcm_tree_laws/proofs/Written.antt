@@ -31,11 +31,10 @@ use Rattle.dcm_trees.specs.Part as part_spec
 use Rattle.dcm_trees.specs.Part.{NamesOutput, FillsAndNames, TellsNoPart}
 use Rattle.dcm_tree_laws.specs.FileSystem.{FileSystem, Host, may_do, folders_do}
 use Rattle.dcm_tree_laws.specs.Laws.{IsOutput, over}
-use Rattle.dcm_tree_laws.specs.Outputs.{HasOutput}
 use Rattle.dcm_tree_laws.specs.Stays.{IsOfOutput}
 use Rattle.dcm_tree_laws.proofs.Files.{path_is}
 use Rattle.dcm_tree_laws.proofs.Filling.{opens_file, part_is_made, part_is_new, is_filled_as, is_output}
-use Rattle.dcm_tree_laws.proofs.Given.{IsReady, name_given, cleared_out, written_named}
+use Rattle.dcm_tree_laws.proofs.Given.{IsReady, NewOutput, name_given, cleared_new, written_named}
 use Rattle.dcm_tree_laws.proofs.Jobs.{finds_job}
 use Rattle.dcm_tree_laws.proofs.Looking.{finds, same_ok}
 use Rattle.dcm_tree_laws.proofs.Quiet.{are_quiet}
@@ -113,14 +112,14 @@ is_ready bytes i = record { none = i.none; of_output = i.of_output; steps = i.st
 
 output_named : {I O F E : Type 0} (h : Host I O) (IsWhole : ℕ → List ℕ → Type 0) (r : Reader I) (w : Writer O) (e : Writer E) (m : Manner) (name path relative bytes : List ℕ) → path ≡ below m.output relative → (fate : Fate) (from : E) (start before : FileSystem) (became : Fate) (to : E)
     (after : FileSystem) → IsReady h IsWhole m.part m.output bytes start before → NamesOutput (may_do {I = I} h) (folders_do {F = F} h) e m name path fate from before became to after → is_written became ≡ true
-    → HasOutput h IsWhole m.part path after.now
+    → NewOutput h IsWhole m.part m.output path start.now after.now
 output_named {I} {O} {F} h IsWhole r w e m name path relative bytes is fate from start before became to after ready n written =
-    cleared_out {I = I} h IsWhole m.part path n.naming n.named after n.clears
+    cleared_new {I = I} h IsWhole m.part m.output path n.naming start.now n.named after n.clears
     (name_given {I = I} {F = F} path relative is ready n.naming n.gives (written_named n.naming fate m.continues (sym (ap is_written n.becomes) ∙ written)))
 
 filled_named : {I O F E : Type 0} (h : Host I O) (IsWhole : ℕ → List ℕ → Type 0) (r : Reader I) (w : Writer O) (e : Writer E) (job : Job) (m : Manner) (name path relative : List ℕ) → path ≡ below m.output relative → (mode : ℕ) (input : I) (output : O) → GivesOutput h IsWhole r w job input mode → h.took output ≡ [] → (from : E) (start before : FileSystem) (fate : Fate) (to : E)
     (after : FileSystem) → IsIdle h IsWhole m.part m.output (writing (h.masked mode)) start before → FillsAndNames (over {F = F} h r w e) job m name path input output from before fate to after → is_written fate ≡ true
-    → HasOutput h IsWhole m.part path after.now
+    → NewOutput h IsWhole m.part m.output path start.now after.now
 filled_named h IsWhole r w e job m name path relative is mode input output gives new from start before fate to after i (part_spec.not_done ending was_filled fills done told removes f) written = not_written fate (ending_fate ending) f done written
 filled_named {I} {O} {F} h IsWhole r w e job m name path relative is mode input output gives new from start before fate to after i (part_spec.has_done ending was_filled told fills done reports names) written =
     output_named {I = I} {F = F} h IsWhole r w e m name path relative (h.took fills.written) is (ending_fate ending) told start was_filled fate to after
@@ -135,7 +134,7 @@ true_not {A} fate not written = not_written fate fate refl not written
 
 ready_named : {I O F E : Type 0} (h : Host I O) (IsWhole : ℕ → List ℕ → Type 0) (r : Reader I) (w : Writer O) (e : Writer E) (job : Job) (m : Manner) (n : Named) (mode : ℕ) (path relative : List ℕ) → path ≡ below m.output relative
     → (from : E) (start before : FileSystem) (result : Result Fate PartThere) (to : E) (after : FileSystem) (fate : Fate) → OpenGives h IsWhole r w job n.path mode before → IsIdle h IsWhole m.part m.output idle start before → DoesReady (over {F = F} h r w e) job m n mode path from before result to after
-    → result ≡ Ok fate → is_written fate ≡ true → HasOutput h IsWhole m.part path after.now
+    → result ≡ Ok fate → is_written fate ≡ true → NewOutput h IsWhole m.part m.output path start.now after.now
 ready_named h IsWhole r w e job m n mode path relative is from start before result to after fate gives i (spec.not_opened opens told f) ok written = not_written fate fates.Unread (same_ok result fates.Unread fate f ok) refl written
 ready_named h IsWhole r w e job m n mode path relative is from start before result to after fate gives i (spec.no_part input cause opened tried opens makes back tells) ok written =
     true_not fate (tells_not e n.name cause from result to fate tells ok) written
@@ -146,14 +145,14 @@ ready_named {I} {O} {F} h IsWhole r w e job m n mode path relative is from start
 
 free_named : {I O F E : Type 0} (h : Host I O) (IsWhole : ℕ → List ℕ → Type 0) (r : Reader I) (w : Writer O) (e : Writer E) (m : Manner) (n : Named) (mode : ℕ) (path relative : List ℕ) → path ≡ below m.output relative
     → (from : E) (start before : FileSystem) (result : Result Fate PartThere) (to : E) (after : FileSystem) (fate : Fate) → FileGives h IsWhole r w m.task n.path mode before → IsIdle h IsWhole m.part m.output idle start before → DoesFree (over {F = F} h r w e) m n mode path from before result to after
-    → result ≡ Ok fate → is_written fate ≡ true → HasOutput h IsWhole m.part path after.now
+    → result ≡ Ok fate → is_written fate ≡ true → NewOutput h IsWhole m.part m.output path start.now after.now
 free_named h IsWhole r w e m n mode path relative is from start before result to after fate gives i (spec.no_days cause f told c) ok written = not_written fate (no_days_fate cause) (same_ok result (no_days_fate cause) fate c ok) (days_not cause) written
 free_named {I} {O} {F} h IsWhole r w e m n mode path relative is from start before result to after fate gives i (spec.has_job job mid f does) ok written =
     ready_named {F = F} h IsWhole r w e job m n mode path relative is from start mid result to after fate (gives job mid f) (more i (quiet (finds_job h r m.task n.path before (Ok job) mid f))) does ok written
 
 placed_named : {I O F E : Type 0} (h : Host I O) (IsWhole : ℕ → List ℕ → Type 0) (r : Reader I) (w : Writer O) (e : Writer E) (m : Manner) (n : Named) (mode : ℕ) (path relative : List ℕ) → path ≡ below m.output relative
     → (from : E) (start before : FileSystem) (result : Result Fate PartThere) (to : E) (after : FileSystem) (fate : Fate) → FileGives h IsWhole r w m.task n.path mode before → IsIdle h IsWhole m.part m.output idle start before → DoesPlaced (over {F = F} h r w e) m n mode path from before result to after
-    → result ≡ Ok fate → is_written fate ≡ true → HasOutput h IsWhole m.part path after.now
+    → result ≡ Ok fate → is_written fate ≡ true → NewOutput h IsWhole m.part m.output path start.now after.now
 placed_named h IsWhole r w e m n mode path relative is from start before result to after fate gives i (spec.not_free place f nf told c) ok written =
     not_written fate (place_fate place m.continues) (same_ok result (place_fate place m.continues) fate c ok) (place_not place m.continues) written
 placed_named {I} {O} {F} h IsWhole r w e m n mode path relative is from start before result to after fate gives i (spec.free place looked f nf does) ok written =
@@ -161,13 +160,13 @@ placed_named {I} {O} {F} h IsWhole r w e m n mode path relative is from start be
     (subst (FileGives h IsWhole r w m.task n.path mode) (sym (finds (folders_do {F = F} h) (are_quiet h) path (length m.output + 1) before place looked f)) gives) (more i (quiet (finds (folders_do {F = F} h) (are_quiet h) path (length m.output + 1) before place looked f))) does ok written
 
 -- at the path of a relative name
-pub at_name : {I O : Type 0} (h : Host I O) (IsWhole : ℕ → List ℕ → Type 0) (part path other : List ℕ) (s : FileSystem) → path ≡ other → HasOutput h IsWhole part path s.now → HasOutput h IsWhole part other s.now
-at_name h IsWhole part path other s is out = subst (λ (p : List ℕ). HasOutput h IsWhole part p s.now) is out
+pub at_name : {I O : Type 0} (h : Host I O) (IsWhole : ℕ → List ℕ → Type 0) (part output path other : List ℕ) (start s : FileSystem) → path ≡ other → NewOutput h IsWhole part output path start.now s.now → NewOutput h IsWhole part output other start.now s.now
+at_name h IsWhole part output path other start s is out = subst (λ (p : List ℕ). NewOutput h IsWhole part output p start.now s.now) is out
 
 pub named_named : {I O F E : Type 0} (h : Host I O) (IsWhole : ℕ → List ℕ → Type 0) (r : Reader I) (w : Writer O) (e : Writer E) (m : Manner) (n : Named) (mode : ℕ) (from : E) (start before : FileSystem) (result : Result Fate PartThere) (to : E) (after : FileSystem) (fate : Fate)
     → FileGives h IsWhole r w m.task n.path mode before → IsIdle h IsWhole m.part m.output idle start before → DoesNamed (over {F = F} h r w e) m n mode from before result to after → result ≡ Ok fate → is_written fate ≡ true
-    → HasOutput h IsWhole m.part (below m.output n.relative) after.now
+    → NewOutput h IsWhole m.part m.output (below m.output n.relative) start.now after.now
 named_named h IsWhole r w e m n mode from start before result to after fate gives i (spec.too_long none told f same) ok written = not_written fate fates.Unwritten (same_ok result fates.Unwritten fate f ok) refl written
 named_named {I} {O} {F} h IsWhole r w e m n mode from start before result to after fate gives i (spec.placed path is does) ok written =
-    at_name h IsWhole m.part path (below m.output n.relative) after (path_is m.output n.relative path is)
+    at_name h IsWhole m.part m.output path (below m.output n.relative) start after (path_is m.output n.relative path is)
     (placed_named {F = F} h IsWhole r w e m n mode path n.relative (path_is m.output n.relative path is) from start before result to after fate gives i does ok written)

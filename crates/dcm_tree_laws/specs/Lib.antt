@@ -5,5 +5,9 @@ pub mod Rows
 pub mod Laws
 pub mod OneRow
 pub mod Outputs
+pub mod Distinct
+pub mod Again
+pub mod Twice
 pub mod Part
 pub mod Single
+pub mod Shares

@@ -1,10 +1,15 @@
 //! Laws of the definitions. Each function takes nothing and makes no call: its contract is the law.
 ghost use Rattle.dcm_trees.specs.World.{world};
+ghost use Rattle.dcm_tree_laws.specs.Again.{AgainIsStill, AgainIsStillOfList, ThereIsLeft};
+ghost use Rattle.dcm_tree_laws.specs.Again.{MadeIsThere, MadeIsThereOfList};
+ghost use Rattle.dcm_tree_laws.specs.Distinct.{OutputsAreDistinct, OutputsAreDistinctOfList};
 ghost use Rattle.dcm_tree_laws.specs.Laws.{NeverHalf, NeverHalfByWords, OthersStay, OthersStayByWords};
 ghost use Rattle.dcm_tree_laws.specs.OneRow.{OneRow, OneRowOfList};
 ghost use Rattle.dcm_tree_laws.specs.Outputs.{WrittenIsThere, WrittenIsThereOfList};
 ghost use Rattle.dcm_tree_laws.specs.Part.{NoPartAfterRun, NoPartLeft, NoPartLeftByList};
+ghost use Rattle.dcm_tree_laws.specs.Shares.{ManifestOfShare, OneOutput, OneShare, RowsOfRuns};
 ghost use Rattle.dcm_tree_laws.specs.Single.{SingleRuns, SingleRunsOfList};
+ghost use Rattle.dcm_tree_laws.specs.Twice.{SecondIsStill};
 
 use dcm_base::{DeviceIn, DeviceOut};
 use dcm_files::Folders;
@@ -40,6 +45,14 @@ pub fn written_is_there<I: DeviceIn, O: DeviceOut, W: DeviceOut, E: DeviceOut, F
     ensures list { WrittenIsThereOfList F I.DeviceIn O.DeviceOut W.DeviceOut E.DeviceOut }
 {}
 
+/// The outputs that the rows of a run say were written are new and distinct. At the path of each was nothing when its
+/// names were begun, and no two of them are at one place. So it is of a run that was begun and did not end before its
+/// last name.
+pub fn outputs_are_distinct<I: DeviceIn, O: DeviceOut, W: DeviceOut, E: DeviceOut, F>()
+    ensures folder { OutputsAreDistinct F I.DeviceIn O.DeviceOut W.DeviceOut E.DeviceOut }
+    ensures list { OutputsAreDistinctOfList F I.DeviceIn O.DeviceOut W.DeviceOut E.DeviceOut }
+{}
+
 /// A run over a tree leaves no part. So it is where no removing of a file failed, also of a run that ends before its
 /// last name. At the path of the part is what was there before, and that is nothing where a run is begun.
 pub fn no_part_left<I: DeviceIn, O: DeviceOut, W: DeviceOut, E: DeviceOut, F>()
@@ -54,4 +67,27 @@ pub fn no_part_left<I: DeviceIn, O: DeviceOut, W: DeviceOut, E: DeviceOut, F>()
 pub fn outputs_are_single_runs<I: DeviceIn, O: DeviceOut, W: DeviceOut, E: DeviceOut, F>()
     ensures folder { SingleRuns F I.DeviceIn O.DeviceOut W.DeviceOut E.DeviceOut }
     ensures list { SingleRunsOfList F I.DeviceIn O.DeviceOut W.DeviceOut E.DeviceOut }
+{}
+
+/// A run that goes on and keeps names leaves the outputs that are there, as those that a run before it wrote. The row
+/// of such a name is `there`, nothing is told, and no call is made but to look. Where the outputs of all files of its
+/// share are there, as after a first run that wrote them, it changes nothing at any time. So it is where no look
+/// fails.
+pub fn again_is_still<I: DeviceIn, O: DeviceOut, W: DeviceOut, E: DeviceOut, F>()
+    ensures made { MadeIsThere F I.DeviceIn O.DeviceOut W.DeviceOut E.DeviceOut }
+    ensures made_by_list { MadeIsThereOfList F I.DeviceIn O.DeviceOut W.DeviceOut E.DeviceOut }
+    ensures name { ThereIsLeft F I.DeviceIn O.DeviceOut E.DeviceOut }
+    ensures twice { SecondIsStill F I.DeviceIn O.DeviceOut W.DeviceOut E.DeviceOut }
+    ensures folder { AgainIsStill F I.DeviceIn O.DeviceOut W.DeviceOut E.DeviceOut }
+    ensures list { AgainIsStillOfList F I.DeviceIn O.DeviceOut W.DeviceOut E.DeviceOut }
+{}
+
+/// Runs that share a tree have each name once. Each relative name is of exactly one of the shares 1 to N of N. Where
+/// the same becomes of each name as in one run, the rows of the N runs together are its rows, in another order. What a
+/// single run writes of a file is one, so that a share writes the same.
+pub fn names_are_shared()
+    ensures share { OneShare }
+    ensures rows { RowsOfRuns }
+    ensures manifest { ManifestOfShare }
+    ensures output { OneOutput }
 {}
