@@ -187,8 +187,8 @@ impl Place {
     }
 }
 
-/// Where a path leads. A link in its last part is followed where that is wanted, or a slash is behind it. An error where
-/// a folder on its way is not there, or is none, or the path is too long.
+/// Where a path leads. A link in its last part is followed where that is wanted, or a slash is behind it. An error
+/// where a folder on its way is not there, or is none, or the path is too long.
 pub(crate) fn place_at(tree: &Tree, path: &[u8], links: Links) -> io::Result<Place> {
     if path.is_empty() {
         return Err(io::Error::from(ErrorKind::NotFound));

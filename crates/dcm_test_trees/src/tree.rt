@@ -169,7 +169,7 @@ impl Tree {
         Ok(path)
     }
 
-    /// What is at a path from the folder that is in itself. Links are not followed, and the path may have any length.
+    /// What is at a path from the folder that is in itself. Links are not followed, and the path has any length.
     fn node_at(&self, path: &[u8]) -> Option<&Node> {
         let mut node = ROOT;
         let mut rest = path;
@@ -192,8 +192,8 @@ impl Tree {
         }
     }
 
-    /// The first path at which another tree has not what this one has, if there is one. Numbers, and the order of names,
-    /// may differ.
+    /// The first path at which another tree has not what this one has, if there is one. Numbers, and the order of
+    /// names, may differ.
     pub fn difference(&self, other: &Tree) -> Result<Option<Vec<u8>>, AllocError> {
         for name in self.names.as_slice() {
             let path = self.path_of(name)?;

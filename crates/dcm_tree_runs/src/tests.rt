@@ -16,6 +16,7 @@ mod paths;
 mod refused;
 mod rows;
 mod runs;
+mod unlike;
 
 use runs::expect_rows;
 use std::test::Fail;

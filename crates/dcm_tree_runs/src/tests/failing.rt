@@ -22,7 +22,7 @@ struct Left<'a> {
     there: &'a [Entry],
 }
 
-/// Expects what a run over entries leaves, by devices that work so. Of standard output so many bytes are wanted at most.
+/// Expects what a run over entries leaves, by devices that work so. Of standard output no more is wanted than fits.
 fn expect_left(
     alloc: Global,
     before: &[Entry],
