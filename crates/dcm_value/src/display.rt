@@ -11,24 +11,31 @@ ghost use Rattle.dcm_value.specs.Display as spec;
 
 use crate::decimals::write_numbers;
 use crate::escapes::{append_text, is_plain_text};
-use crate::hexadecimal::{LANES, weave_blocks};
-use crate::units::{BLOCK, FEW, FEW_TEXT, Kind, LONGEST, append_units, kind_of, shown_unit};
+use crate::hexadecimal::{WOVEN_LANES, weave_blocks};
+use crate::units::{
+    BLOCK, BLOCK_BYTES, BLOCK_TEXT, FEW, FEW_TEXT, Kind, LONGEST, append_units, kind_of, shown_unit,
+};
 use arrayvec::ArrayVec;
 use dcm_base::{DeviceOut, Mode, Syntax, Vr, Watched, WriteFailed, put_all, uid_name};
 
-/// The most bytes that are shown at a time.
-const TEXT: usize = 3072;
+/// The bytes of text of a byte that is escaped: `%` and two digits.
+const ESCAPED: usize = 3;
 
-/// The most bytes of a short text that is not plain. The buffer of so many is blanked in a few steps, where that of a
-/// long text takes longer than the text.
-const SHORT: usize = 80;
+/// The most bytes of a text that become escaped text at a time: as many as a block of units has, so that one size of
+/// buffer, `BLOCK_TEXT`, does for both.
+const TEXT: usize = BLOCK_TEXT / ESCAPED;
+
+/// The most bytes of a short text that is not plain. It is 80: more than the 64 of the longest LO and UI (PS3.5 6.2),
+/// and its buffer is as large as that of few units, 240 bytes, which are blanked in a few steps. To blank that of a
+/// long text takes longer than such a text.
+const SHORT: usize = FEW_TEXT / ESCAPED;
 
 /// Room for a short text in which each byte is escaped.
-const SHORT_TEXT: usize = 3 * SHORT;
+const SHORT_TEXT: usize = ESCAPED * SHORT;
 
-/// Room for a block of units in hexadecimal: three bytes of text for each of at most 1,024, and some more, as its last
-/// lanes are stored past the end of its text.
-const WOVEN_TEXT: usize = 3 * 1024 + LANES;
+/// Room for a block of units in hexadecimal: a byte has two digits and, where it is a unit, a backslash; and some more,
+/// as the last lanes are stored past the end of their text.
+const WOVEN_TEXT: usize = 3 * BLOCK_BYTES + WOVEN_LANES;
 
 /// What was shown of a value.
 #[derive(Drop)]
@@ -149,7 +156,7 @@ impl Shown {
     {
         let mut rest = bytes;
         while !rest.is_empty() && !self.is_cut() {
-            let (block, after) = rest.split_at(rest.len().min(TEXT / 3));
+            let (block, after) = rest.split_at(rest.len().min(TEXT));
             self.emit_part(block, out)?;
             rest = after;
         }
@@ -162,7 +169,7 @@ impl Shown {
         bytes: &[u8],
         out: &mut Watched<W>,
     ) -> Result<(), WriteFailed>
-        requires { 3 * length bytes.now ≤ TEXT }
+        requires { length bytes.now ≤ TEXT }
         ensures { Emits W.DeviceOut out.old out.new (display_of self.old) (display_of self.new)
             (escaped bytes.now) result }
     {
@@ -170,29 +177,29 @@ impl Shown {
             return self.emit(bytes, out);
         }
         if bytes.len() <= SHORT {
-            return self.emit_short(bytes, out);
+            return self.emit_escaped::<SHORT_TEXT, W>(bytes, out);
         }
-        let mut text: ArrayVec<u8, TEXT> = ArrayVec::new();
-        append_text(bytes, &mut text);
-        self.emit(text.as_slice(), out)
+        self.emit_escaped::<BLOCK_TEXT, W>(bytes, out)
     }
 
-    /// Shows a short text, which need not be plain.
-    fn emit_short<W: DeviceOut>(
+    /// Shows a part of a text that need not be plain, by way of a buffer of N bytes. That is blanked for each call, so
+    /// that a short text has a small one.
+    fn emit_escaped<const N: usize, W: DeviceOut>(
         &mut self,
         bytes: &[u8],
         out: &mut Watched<W>,
     ) -> Result<(), WriteFailed>
-        requires { length bytes.now ≤ SHORT }
+        requires small { N ≤ BLOCK_TEXT }
+        requires room { ESCAPED * length bytes.now ≤ N }
         ensures { Emits W.DeviceOut out.old out.new (display_of self.old) (display_of self.new)
             (escaped bytes.now) result }
     {
-        let mut text: ArrayVec<u8, SHORT_TEXT> = ArrayVec::new();
+        let mut text: ArrayVec<u8, N> = ArrayVec::new();
         append_text(bytes, &mut text);
         self.emit(text.as_slice(), out)
     }
 
-    /// Shows units, each after a backslash, 128 at a time. Many of them have ways of their own.
+    /// Shows units, each after a backslash. Many of them have ways of their own.
     pub fn emit_units<W: DeviceOut>(
         &mut self,
         vr: Vr,
@@ -249,7 +256,7 @@ impl Shown {
         ensures { Emits W.DeviceOut out.old out.new (display_of self.old) (display_of self.new)
             (numbers is_signed is_big size units.now) result }
     {
-        let mut text = [0; TEXT];
+        let mut text = [0; BLOCK_TEXT];
         let mut rest = units;
         while !rest.is_empty() && !self.is_cut() {
             let (block, after) = rest.split_at(rest.len().min(BLOCK * size));
@@ -284,7 +291,8 @@ impl Shown {
         Ok(())
     }
 
-    /// Shows units one by one, each after a backslash. Most values have few.
+    /// Shows units, each after a backslash. Each becomes text by itself, but those of a block go out together. Most
+    /// values have few.
     fn emit_singly<W: DeviceOut>(
         &mut self,
         vr: Vr,
@@ -295,34 +303,35 @@ impl Shown {
         ensures { Emits W.DeviceOut out.old out.new (display_of self.old) (display_of self.new)
             (separated_units vr syntax units.now) result }
     {
-        if !units.is_empty() && !self.is_cut() && units.len() <= FEW * shown_unit(vr) {
-            return self.emit_few(vr, syntax, units, out);
+        let size = shown_unit(vr);
+        if !units.is_empty() && !self.is_cut() && units.len() <= FEW * size {
+            return self.emit_block::<FEW_TEXT, W>(vr, syntax, units, out);
         }
-        let most = TEXT / LONGEST * shown_unit(vr);
         let mut rest = units;
         while !rest.is_empty() && !self.is_cut() {
-            let (block, after) = rest.split_at(rest.len().min(most));
-            let mut text: ArrayVec<u8, TEXT> = ArrayVec::new();
-            append_units(vr, syntax, block, &mut text);
-            self.emit(text.as_slice(), out)?;
+            let (block, after) = rest.split_at(rest.len().min(BLOCK * size));
+            self.emit_block::<BLOCK_TEXT, W>(vr, syntax, block, out)?;
             rest = after;
         }
         Ok(())
     }
 
-    /// Shows few units, each after a backslash.
-    fn emit_few<W: DeviceOut>(
+    /// Shows the units of a block, each after a backslash, by way of a buffer of N bytes. That is blanked for each
+    /// call, so that few units have a small one.
+    fn emit_block<const N: usize, W: DeviceOut>(
         &mut self,
         vr: Vr,
         syntax: Syntax,
         units: &[u8],
         out: &mut Watched<W>,
     ) -> Result<(), WriteFailed>
-        requires { length units.now ≤ FEW * unit_size vr }
+        requires small { N ≤ BLOCK_TEXT }
+        requires room { LONGEST * (length units.now / unit_size vr) ≤ N }
+        requires block { length units.now ≤ BLOCK * unit_size vr }
         ensures { Emits W.DeviceOut out.old out.new (display_of self.old) (display_of self.new)
             (separated_units vr syntax units.now) result }
     {
-        let mut text: ArrayVec<u8, FEW_TEXT> = ArrayVec::new();
+        let mut text: ArrayVec<u8, N> = ArrayVec::new();
         append_units(vr, syntax, units, &mut text);
         self.emit(text.as_slice(), out)
     }

@@ -9,7 +9,7 @@ use arrayvec::ArrayVec;
 use std::simd::prelude::*;
 
 /// The bytes of a text that are looked at together. Most texts are short, so there are no more.
-const LANES: usize = 8;
+const TEXT_LANES: usize = 8;
 
 /// The last byte of ASCII that is no control: `~`.
 const LAST_ASCII: u8 = 126;
@@ -67,16 +67,16 @@ fn is_plain_singly(bytes: &[u8]) -> bool
 pub fn is_plain_text(bytes: &[u8]) -> bool
     ensures { result ≡ list_all is_plain_byte bytes.now }
 {
-    if bytes.len() < LANES {
+    if bytes.len() < TEXT_LANES {
         return is_plain_singly(bytes);
     }
-    let blocks = (bytes.len() - 1) / LANES;
+    let blocks = (bytes.len() - 1) / TEXT_LANES;
     for block in 0..blocks {
-        if has_escapes(u8x8::from_slice(&bytes[LANES * block..])) {
+        if has_escapes(u8x8::from_slice(&bytes[TEXT_LANES * block..])) {
             return false;
         }
     }
-    let (_, last) = bytes.split_at(bytes.len() - LANES);
+    let (_, last) = bytes.split_at(bytes.len() - TEXT_LANES);
     !has_escapes(u8x8::from_slice(last))
 }
 
@@ -115,16 +115,16 @@ fn is_ascii_singly(bytes: &[u8]) -> bool
 pub fn is_plain_ascii(bytes: &[u8]) -> bool
     ensures { result ≡ list_all is_ascii_byte bytes.now }
 {
-    if bytes.len() < LANES {
+    if bytes.len() < TEXT_LANES {
         return is_ascii_singly(bytes);
     }
-    let blocks = (bytes.len() - 1) / LANES;
+    let blocks = (bytes.len() - 1) / TEXT_LANES;
     for block in 0..blocks {
-        if has_others(u8x8::from_slice(&bytes[LANES * block..])) {
+        if has_others(u8x8::from_slice(&bytes[TEXT_LANES * block..])) {
             return false;
         }
     }
-    let (_, last) = bytes.split_at(bytes.len() - LANES);
+    let (_, last) = bytes.split_at(bytes.len() - TEXT_LANES);
     !has_others(u8x8::from_slice(last))
 }
 
@@ -203,11 +203,14 @@ pub fn append_text<const N: usize>(bytes: &[u8], text: &mut ArrayVec<u8, N>)
     requires { length text.old.items + 3 * length bytes.now ≤ N }
     ensures { text.new.items ≡ text.old.items ++ spec.escaped bytes.now }
 {
-    let blocks = bytes.len() / LANES;
+    let blocks = bytes.len() / TEXT_LANES;
     for block in 0..blocks {
-        append_eight(&bytes[LANES * block..LANES * block + LANES], text);
+        append_eight(
+            &bytes[TEXT_LANES * block..TEXT_LANES * block + TEXT_LANES],
+            text,
+        );
     }
-    let (_, last) = bytes.split_at(LANES * blocks);
+    let (_, last) = bytes.split_at(TEXT_LANES * blocks);
     append_singly(last, text);
 }
 
@@ -231,7 +234,7 @@ fn backslashes_singly(bytes: &[u8]) -> usize
 /// How many backslashes there are in eight bytes behind the first ones.
 #[inline(always)]
 fn backslashes_behind(skipped: usize, bytes: u8x8) -> u32
-    requires { skipped < LANES }
+    requires { skipped < TEXT_LANES }
     ensures count { result ≡ count_by (λ b. b == 92) (drop skipped bytes) }
     ensures bound { result ≤ 8 }
 {
@@ -244,14 +247,14 @@ pub fn backslashes(bytes: &[u8]) -> usize
     ensures count { result ≡ count_by (λ b. b == 92) bytes.now }
     ensures bound { result ≤ length bytes.now }
 {
-    if bytes.len() < LANES {
+    if bytes.len() < TEXT_LANES {
         return backslashes_singly(bytes);
     }
-    let blocks = (bytes.len() - 1) / LANES;
+    let blocks = (bytes.len() - 1) / TEXT_LANES;
     let mut count = 0;
     for block in 0..blocks {
-        count += backslashes_in(u8x8::from_slice(&bytes[LANES * block..])) as usize;
+        count += backslashes_in(u8x8::from_slice(&bytes[TEXT_LANES * block..])) as usize;
     }
-    let (front, last) = bytes.split_at(bytes.len() - LANES);
-    count + backslashes_behind(LANES * blocks - front.len(), u8x8::from_slice(last)) as usize
+    let (front, last) = bytes.split_at(bytes.len() - TEXT_LANES);
+    count + backslashes_behind(TEXT_LANES * blocks - front.len(), u8x8::from_slice(last)) as usize
 }

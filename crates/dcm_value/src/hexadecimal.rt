@@ -6,8 +6,8 @@ ghost use Rattle.dcm_value.specs.Woven.{woven};
 
 use std::simd::{u8x16, u8x32, u8x64};
 
-/// The bytes that become text at a time.
-pub const LANES: usize = 16;
+/// The bytes that become hexadecimal text together: as many as one shuffle looks up in the sixteen digits.
+pub const WOVEN_LANES: usize = 16;
 
 const DIGITS: [u8; 16] = *b"0123456789abcdef";
 
@@ -101,9 +101,9 @@ pub fn weave_blocks(size: usize, is_turned: bool, bytes: &[u8], text: &mut [u8])
     ensures text { take (2 * length bytes.now + length bytes.now / size) text.new ≡ woven size is_turned bytes.now }
     ensures size { length text.new ≡ length text.old }
 {
-    let step = 2 * LANES + LANES / size;
-    for block in 0..bytes.len() / LANES {
-        let lanes = u8x16::from_slice(&bytes[LANES * block..]);
+    let step = 2 * WOVEN_LANES + WOVEN_LANES / size;
+    for block in 0..bytes.len() / WOVEN_LANES {
+        let lanes = u8x16::from_slice(&bytes[WOVEN_LANES * block..]);
         weave(size, is_turned, lanes).copy_to_slice(&mut text[step * block..]);
     }
 }

@@ -21,7 +21,11 @@ pub enum Kind {
     Hexadecimal,
 }
 
-/// The bytes of the longest text of a unit with a backslash: a number of eight bytes with its sign.
+/// The bytes of the longest unit.
+const LONGEST_UNIT: usize = 8;
+
+/// The bytes that the text of a unit with its backslash has room for. The longest, a number of eight bytes, has 21. With
+/// 24, three for each of those bytes, a block of units has as much text as its bytes have where each is escaped.
 pub const LONGEST: usize = 24;
 
 /// How a value is shown whose units are no text.
@@ -220,20 +224,25 @@ fn append_high<const N: usize>(kind: Kind, size: usize, units: &[u8], text: &mut
     }
 }
 
-/// The most units that are shown at a time.
+/// The most units that become text at a time. With 128 of them a block has at most 1,024 bytes and a text of 3,072, so
+/// that both stay in the nearest cache, while what a call of the writer costs is shared by many.
 pub const BLOCK: usize = 128;
 
-/// Units that are few. Their buffers are blanked in a few steps, where those of a block take longer than the units.
+/// The most bytes of a block of units.
+pub const BLOCK_BYTES: usize = LONGEST_UNIT * BLOCK;
+
+/// Room for the text of a block of units.
+pub const BLOCK_TEXT: usize = LONGEST * BLOCK;
+
+/// Units that are few. Their buffers are blanked in a few steps, where those of a block take longer than the units. With
+/// ten they are of 80 and 240 bytes, which are 5 and 15 stores of sixteen, and a matrix of three by three is few.
 pub const FEW: usize = 10;
+
+/// The most bytes of few units.
+const FEW_BYTES: usize = LONGEST_UNIT * FEW;
 
 /// Room for the text of few units.
 pub const FEW_TEXT: usize = LONGEST * FEW;
-
-/// The most bytes of few units.
-const FEW_BYTES: usize = 8 * FEW;
-
-/// The most bytes of a block of units.
-const BLOCK_BYTES: usize = 8 * BLOCK;
 
 /// The units of a little endian value more, each after a backslash. They are turned in a block.
 fn append_turned<const N: usize>(vr: Vr, units: &[u8], block: &mut [u8], text: &mut ArrayVec<u8, N>)
