@@ -49,12 +49,15 @@ pub trait Sink {
         ensures failed { Tells (has_failed self.old) (has_failed self.new) result }
         ensures kept { kept self.new ≡ kept self.old };
 
-    /// Takes an element whose value is whole, as long as its head says: its head, its bytes and its end, as `take` does
-    /// one after another. Most elements come so. A sink whose state stays the same over one, or that needs less to be
-    /// held for it, has a shorter way in a body of its own.
+    /// Takes an element with its whole value by its tokens, one after another: its head, its bytes where it has any, and
+    /// its end. So a sink takes one for which it has no shorter way; none has a body of its own for it.
     #[inline(always)]
-    fn take_whole(&mut self, head: Head, syntax: Syntax, value: &[u8]) -> Result<(), WriteFailed>
-        requires { IsLeaf head syntax value.now }
+    fn take_by_tokens(
+        &mut self,
+        head: Head,
+        syntax: Syntax,
+        value: &[u8],
+    ) -> Result<(), WriteFailed>
         ensures state { OnOk result (state self.new
             ≡ fold step (state self.old) (whole_atoms head syntax value.now)) }
         ensures bytes { Puts (contents self.old) (contents self.new)
@@ -67,6 +70,22 @@ pub trait Sink {
             self.take(Token::Bytes(value))?;
         }
         self.take(Token::CloseLeaf)
+    }
+
+    /// Takes an element whose value is whole, as long as its head says, as `take_by_tokens` does. Most elements come so. A
+    /// sink whose state stays the same over one, or that needs less to be held for it, has a shorter way in a body of its
+    /// own.
+    #[inline(always)]
+    fn take_whole(&mut self, head: Head, syntax: Syntax, value: &[u8]) -> Result<(), WriteFailed>
+        requires { IsLeaf head syntax value.now }
+        ensures state { OnOk result (state self.new
+            ≡ fold step (state self.old) (whole_atoms head syntax value.now)) }
+        ensures bytes { Puts (contents self.old) (contents self.new)
+            (outputs step writes (state self.old) (whole_atoms head syntax value.now)) result }
+        ensures failed { Tells (has_failed self.old) (has_failed self.new) result }
+        ensures kept { kept self.new ≡ kept self.old }
+    {
+        self.take_by_tokens(head, syntax, value)
     }
 
     /// Takes such an element as `take_whole` does, and says where the writer failed whether what its head makes was out.

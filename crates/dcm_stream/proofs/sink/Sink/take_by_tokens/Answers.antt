@@ -5,8 +5,8 @@ use Rattle.dcm_base.specs.Steps.Atoms.{Atom, opens, value_byte, closes_leaf}
 use Rattle.dcm_base.specs.Steps.Steps.{outputs}
 use Rattle.dcm_devices.specs.Device.{Puts}
 use Rattle.dcm_stream.proofs.Runs.Wholes.{whole_fails, whole_goes, empty_goes}
-use Rattle.dcm_stream.proofs.sink.Sink.take_whole.Goals as goal
-use Rattle.dcm_stream.proofs.sink.Sink.take_whole.Goals.{then-not-is_empty+in_ok-take-2, else-not-is_empty}
+use Rattle.dcm_stream.proofs.sink.Sink.take_by_tokens.Goals as goal
+use Rattle.dcm_stream.proofs.sink.Sink.take_by_tokens.Goals.{then-not-is_empty+in_ok-take-2, else-not-is_empty}
 
 pub returns-in_err-take-2-clause-bytes : goal.returns-in_err-take-2-clause-bytes
 returns-in_err-take-2-clause-bytes g c =
