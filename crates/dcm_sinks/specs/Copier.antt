@@ -1,8 +1,7 @@
 -- A `Copier` in the definitions.
-use Rattle.std.specs.Prelude.{ℕ, if◌then◌else◌, List, Result, option_to_list}
+use Rattle.std.specs.Prelude.{ℕ, List, Result, option_to_list}
 use Rattle.dcm_base.specs.Steps.Outputs.{Went, Writer}
 use Rattle.dcm_base.specs.Tables.Representation.{unit}
-use Rattle.dcm_base.specs.Tree.Value.{turned}
 use Rattle.dcm_sinks.specs.declared.encode.copier.Copier.{Copier}
 use Rattle.dcm_sinks.specs.EncodeSink.{Copying, copies, copy_writes}
 
@@ -13,10 +12,6 @@ copying c = record {
   held = c.held.bytes.items;
   padding = option_to_list c.pad;
 }
-
--- whole units as it writes them
-abbrev pub ordered : Copier → List ℕ → List ℕ
-ordered c v = if c.is_turned then turned (unit c.vr) v else v
 
 -- it read these bytes, and the writer has failed exactly where the call did
 abbrev pub Copied : {W T E : Type 0} → Writer W → (held holds : W) → (old new : Copier) → List ℕ → Result T E → Type 0

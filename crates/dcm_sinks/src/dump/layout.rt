@@ -209,13 +209,14 @@ pub fn put_line<W: DeviceOut>(
     put_rest(out, dictionary, line, tag, declared, count)
 }
 
-/// The level of the lines that are written down whole. Where less is open, they begin with fewer spaces.
+/// The level of the lines that are written down whole. Where less is open, they begin with fewer spaces, two for each
+/// level. Deeper than 16 nearly no data set goes; there a line is put together.
 pub const WRITTEN_LEVEL: usize = 16;
 
 /// The line of an item that begins, at that level, where its length is undefined or 0.
 pub fn written_item(declared: Length) -> Option<&'static [u8]>
     ensures text { IfSome result (λ text. item_text declared ≡ Some text.now) }
-    ensures spaces { IfSome result (λ text. 32 ≤ length text.now) }
+    ensures spaces { IfSome result (λ text. 2 * WRITTEN_LEVEL ≤ length text.now) }
 {
     match declared {
         Length::Undefined => Some(
@@ -231,7 +232,7 @@ pub fn written_item(declared: Length) -> Option<&'static [u8]>
 /// The line of the end of an item, at that level.
 pub fn written_item_end(declared: Length) -> &'static [u8]
     ensures text { result.now ≡ item_end_text declared }
-    ensures spaces { 32 ≤ length result.now }
+    ensures spaces { 2 * WRITTEN_LEVEL ≤ length result.now }
 {
     match declared {
         Length::Known(_) => {
@@ -246,7 +247,7 @@ pub fn written_item_end(declared: Length) -> &'static [u8]
 /// The line of the end of a sequence, at that level.
 pub fn written_sequence_end(declared: Length) -> &'static [u8]
     ensures text { result.now ≡ sequence_end_text declared }
-    ensures spaces { 32 ≤ length result.now }
+    ensures spaces { 2 * WRITTEN_LEVEL ≤ length result.now }
 {
     match declared {
         Length::Known(_) => {
@@ -265,9 +266,9 @@ pub fn put_written<W: DeviceOut>(
     line: &'static [u8],
     level: usize,
 ) -> Result<(), WriteFailed>
-    requires level { level ≤ 16 }
-    requires line { 32 ≤ length line.now }
-    ensures { Wrote W.DeviceOut out.old out.new (drop (2 * (16 - level)) line.now) result }
+    requires level { level ≤ WRITTEN_LEVEL }
+    requires line { 2 * WRITTEN_LEVEL ≤ length line.now }
+    ensures { Wrote W.DeviceOut out.old out.new (drop (2 * (WRITTEN_LEVEL - level)) line.now) result }
 {
     put_all(out, &line[2 * (WRITTEN_LEVEL - level)..])
 }

@@ -20,7 +20,8 @@ const LONGEST_SHORT: u32 = 65534;
 /// The bytes that are turned round at a time.
 const BLOCK: usize = 8192;
 
-/// The bytes of a small value, as one or two numbers are.
+/// The bytes of a small value, as one or two numbers are. With 64, which is eight of the longest numbers, its block is
+/// blanked in four stores of sixteen.
 const SMALL_BLOCK: usize = 64;
 
 /// The pad byte of a fragment (PS3.5 A.4).
@@ -171,7 +172,7 @@ fn put_cut_value<W: DeviceOut>(
 }
 
 impl Copier {
-    ghost use Rattle.dcm_sinks.specs.Copier.{Copied, copying, ordered};
+    ghost use Rattle.dcm_sinks.specs.Copier.{Copied, copying};
 
     /// The value of an element of this size.
     pub fn of_leaf(source: Syntax, target: Syntax, vr: Vr, size: u32) -> Copier
@@ -207,7 +208,7 @@ impl Copier {
         ensures { Copied W.DeviceOut out.old out.new self.old self.new bytes.now result }
     {
         if self.held.as_slice().is_empty() && bytes.len() % self.vr.unit() == 0 {
-            return self.put_units(bytes, out);
+            return put_ordered(self.is_turned, self.vr, bytes, out);
         }
         self.feed_cut(bytes, out)
     }
@@ -222,19 +223,8 @@ impl Copier {
         ensures { Copied W.DeviceOut out.old out.new self.old self.new bytes.now result }
     {
         let units = self.held.feed(self.vr.unit(), bytes);
-        self.put_units(units.first.as_slice(), out)?;
-        self.put_units(units.others, out)
-    }
-
-    /// Writes whole units.
-    fn put_units<W: DeviceOut>(&self, units: &[u8], out: &mut Watched<W>) -> Result<(), WriteFailed>
-        ensures { Wrote W.DeviceOut out.old out.new (ordered self.now units.now) result }
-    {
-        if self.is_turned {
-            put_turned(self.vr, units, out)
-        } else {
-            put_all(out, units)
-        }
+        put_ordered(self.is_turned, self.vr, units.first.as_slice(), out)?;
+        put_ordered(self.is_turned, self.vr, units.others, out)
     }
 
     /// Writes the bytes after the last whole unit, and the pad byte of an odd value. Fails where the writer fails.

@@ -12,4 +12,4 @@ returns-then-bytes-unit-eq0 g c =
     let size : length c.as_slice.result.now ≡ 0 = search rules in
     let none : c.args.self.now.held.bytes.items ≡ [] = sym c.as_slice.ensures ∙ nil_from_length c.as_slice.result.now size in
     let whole : length c.args.bytes.now % unit c.args.self.now.vr ≡ 0 = search rules in
-    record { goes = whole_goes p (unit_some c.args.self.now.vr) c.args.bytes.now none whole _ _ _ c.put_units.ensures.bytes; failed = search rules }
+    record { goes = whole_goes p (unit_some c.args.self.now.vr) c.args.bytes.now none whole _ _ _ c.put_ordered.ensures.bytes; failed = search rules }
