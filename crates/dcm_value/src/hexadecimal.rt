@@ -101,9 +101,29 @@ pub fn weave_blocks(size: usize, is_turned: bool, bytes: &[u8], text: &mut [u8])
     ensures text { take (2 * length bytes.now + length bytes.now / size) text.new ≡ woven size is_turned bytes.now }
     ensures size { length text.new ≡ length text.old }
 {
-    let step = 2 * WOVEN_LANES + WOVEN_LANES / size;
+    match (size, is_turned) {
+        (2, false) => weave_units::<2, false>(bytes, text),
+        (2, true) => weave_units::<2, true>(bytes, text),
+        (4, false) => weave_units::<4, false>(bytes, text),
+        (4, true) => weave_units::<4, true>(bytes, text),
+        (8, false) => weave_units::<8, false>(bytes, text),
+        (8, true) => weave_units::<8, true>(bytes, text),
+        (_, false) => weave_units::<1, false>(bytes, text),
+        (_, true) => weave_units::<1, true>(bytes, text),
+    }
+}
+
+/// The same for units of one size in one order, so that the loop asks for neither.
+fn weave_units<const SIZE: usize, const IS_TURNED: bool>(bytes: &[u8], text: &mut [u8])
+    requires size { IsUnit SIZE }
+    requires whole { 16 * (length bytes.now / 16) ≡ length bytes.now }
+    requires room { 3 * length bytes.now + 16 ≤ length text.old }
+    ensures text { take (2 * length bytes.now + length bytes.now / SIZE) text.new ≡ woven SIZE IS_TURNED bytes.now }
+    ensures size { length text.new ≡ length text.old }
+{
+    let step = 2 * WOVEN_LANES + WOVEN_LANES / SIZE;
     for block in 0..bytes.len() / WOVEN_LANES {
         let lanes = u8x16::from_slice(&bytes[WOVEN_LANES * block..]);
-        weave(size, is_turned, lanes).copy_to_slice(&mut text[step * block..]);
+        weave(SIZE, IS_TURNED, lanes).copy_to_slice(&mut text[step * block..]);
     }
 }
