@@ -10,3 +10,4 @@ pub mod OneToOne
 pub mod Displays
 pub mod Sound
 pub mod Runs
+pub mod Directly

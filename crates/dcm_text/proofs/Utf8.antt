@@ -30,13 +30,13 @@ use Rattle.dcm_text.proofs.Whole.{plain_first}
 
 -- ---- what fits
 
-between : (least most n : ℕ) → least ≤ n → n ≤ most → is_between least most n ≡ true
+pub between : (least most n : ℕ) → least ≤ n → n ≤ most → is_between least most n ≡ true
 between least most n l m = grind (arith, nat_tests)
 
-fits_one : (r : Range) (d : ℕ) (rest : List ℕ) → is_between r.0 r.1 d ≡ true → fit_of (r ∷ []) (d ∷ rest) ≡ Whole
+pub fits_one : (r : Range) (d : ℕ) (rest : List ℕ) → is_between r.0 r.1 d ≡ true → fit_of (r ∷ []) (d ∷ rest) ≡ Whole
 fits_one r d rest h = ap (λ (t : Bool). cond t Whole Not) h
 
-fits_two : (r s : Range) (d e : ℕ) (rest : List ℕ) → is_between r.0 r.1 d ≡ true → is_between s.0 s.1 e ≡ true
+pub fits_two : (r s : Range) (d e : ℕ) (rest : List ℕ) → is_between r.0 r.1 d ≡ true → is_between s.0 s.1 e ≡ true
     → fit_of (r ∷ s ∷ []) (d ∷ e ∷ rest) ≡ Whole
 fits_two r s d e rest h k = ap (λ (t : Bool). cond t (fit_of (s ∷ []) (e ∷ rest)) Not) h ∙ fits_one s e rest k
 
@@ -77,13 +77,13 @@ number_of_four b d e f l =
 
 -- ---- what follows a first byte
 
-ranges_two : (b : ℕ) → b < 0xE0 → utf8_ranges b ≡ NEXT ∷ []
+pub ranges_two : (b : ℕ) → b < 0xE0 → utf8_ranges b ≡ NEXT ∷ []
 ranges_two b l = cond-true _ _ _ (let t : nat_lt b 0xE0 ≡ true = grind (arith, nat_tests) in t)
 
 abbrev pub second_three : ℕ → Range
 second_three b = cond (b == 0xE0) (0xA0, 0xBF) (cond (b == 0xED) (0x80, 0x9F) NEXT)
 
-ranges_three : (b : ℕ) → 0xE0 ≤ b → b < 0xF0 → utf8_ranges b ≡ second_three b ∷ NEXT ∷ []
+pub ranges_three : (b : ℕ) → 0xE0 ≤ b → b < 0xF0 → utf8_ranges b ≡ second_three b ∷ NEXT ∷ []
 ranges_three b l h =
     cond-false _ _ _ (let t : nat_lt b 0xE0 ≡ false = grind (arith, nat_tests) in t)
     ∙ of_tests (b == 0xE0) (b == 0xED) (nat_lt b 0xF0) (grind (arith, nat_tests)) _

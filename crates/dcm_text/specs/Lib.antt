@@ -8,3 +8,4 @@ pub mod Runs
 pub mod TextPieces
 pub mod Shown
 pub mod Laws
+pub mod Quick

@@ -20,6 +20,7 @@ mod form;
 mod gb18030;
 mod gb_tables;
 pub mod laws;
+mod quick;
 mod set;
 mod sets;
 mod shown;
