@@ -11,3 +11,4 @@ pub mod Displays
 pub mod Sound
 pub mod Runs
 pub mod Directly
+pub mod Ahead

@@ -9,3 +9,4 @@ pub mod TextPieces
 pub mod Shown
 pub mod Laws
 pub mod Quick
+pub mod Fronts

@@ -17,6 +17,7 @@ mod characters;
 mod decoder;
 mod first;
 mod form;
+mod fronts;
 mod gb18030;
 mod gb_tables;
 pub mod laws;
