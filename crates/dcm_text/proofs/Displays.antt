@@ -120,7 +120,7 @@ ascii_cell sets kind text e = ap (flat_map cell_piece) (plain_decoded sets kind 
 
 -- ---- UTF-8
 
-utf8_pieces : (cs : List ℕ) → list_all is_dumped cs ≡ true → flat_map dumped_piece (map encoded cs) ≡ encode_utf8_all cs
+pub utf8_pieces : (cs : List ℕ) → list_all is_dumped cs ≡ true → flat_map dumped_piece (map encoded cs) ≡ encode_utf8_all cs
 utf8_pieces [] e = refl
 utf8_pieces (c ∷ cs) e =
     let both = and_parts (is_dumped c) (list_all is_dumped cs) e in

@@ -10,3 +10,5 @@ pub mod OneToOne
 pub mod Displays
 pub mod Sound
 pub mod Runs
+pub mod Directly
+pub mod Ahead

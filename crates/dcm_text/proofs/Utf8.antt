@@ -1,6 +1,6 @@
 -- A character in UTF-8 is read as it was written.
 use Rattle.std.proofs.Common.{◌≡◌, ℕ, ◌+◌, ◌-◌, ◌*◌, ◌/◌, ◌%◌, ◌≤◌, ◌<◌, Bool, true, false, cond, List, [], ◌∷◌, ◌++◌, length, take, drop, map, Option, Some, None}
-use Rattle.std.proofs.Common.{refl, sym, ap, subst, ◌∙◌, arith, inl, inr, ◌⊎◌, ⊎_elim}
+use Rattle.std.proofs.Common.{refl, sym, ap, subst, ◌∙◌, arith, append_assoc, inl, inr, ◌⊎◌, ⊎_elim}
 use Rattle.std.specs.Prelude.{nat_lt, ◌==◌, ◌&&◌, encode_utf8_all}
 use Rattle.std.specs.Char.{encode_utf8}
 use Rattle.std.specs.Str.{all_scalars}
@@ -30,13 +30,13 @@ use Rattle.dcm_text.proofs.Whole.{plain_first}
 
 -- ---- what fits
 
-between : (least most n : ℕ) → least ≤ n → n ≤ most → is_between least most n ≡ true
+pub between : (least most n : ℕ) → least ≤ n → n ≤ most → is_between least most n ≡ true
 between least most n l m = grind (arith, nat_tests)
 
-fits_one : (r : Range) (d : ℕ) (rest : List ℕ) → is_between r.0 r.1 d ≡ true → fit_of (r ∷ []) (d ∷ rest) ≡ Whole
+pub fits_one : (r : Range) (d : ℕ) (rest : List ℕ) → is_between r.0 r.1 d ≡ true → fit_of (r ∷ []) (d ∷ rest) ≡ Whole
 fits_one r d rest h = ap (λ (t : Bool). cond t Whole Not) h
 
-fits_two : (r s : Range) (d e : ℕ) (rest : List ℕ) → is_between r.0 r.1 d ≡ true → is_between s.0 s.1 e ≡ true
+pub fits_two : (r s : Range) (d e : ℕ) (rest : List ℕ) → is_between r.0 r.1 d ≡ true → is_between s.0 s.1 e ≡ true
     → fit_of (r ∷ s ∷ []) (d ∷ e ∷ rest) ≡ Whole
 fits_two r s d e rest h k = ap (λ (t : Bool). cond t (fit_of (s ∷ []) (e ∷ rest)) Not) h ∙ fits_one s e rest k
 
@@ -62,10 +62,10 @@ is_character : (b d e f c : ℕ) → number_utf8 b d e f ≡ c → scalar c ≡ 
 unfolding character_utf8
 is_character b d e f c n s = ap numbered n ∙ ap (λ (t : Bool). cond t (Some c) None) s
 
-number_of_two : (b d e f : ℕ) → b < 0xE0 → number_utf8 b d e f ≡ (b - 0xC0) * 64 + low_bits d
+pub number_of_two : (b d e f : ℕ) → b < 0xE0 → number_utf8 b d e f ≡ (b - 0xC0) * 64 + low_bits d
 number_of_two b d e f l = cond-true _ _ _ (let t : nat_lt b 0xE0 ≡ true = grind (arith, nat_tests) in t)
 
-number_of_three : (b d e f : ℕ) → 0xE0 ≤ b → b < 0xF0 → number_utf8 b d e f ≡ ((b - 0xE0) * 64 + low_bits d) * 64 + low_bits e
+pub number_of_three : (b d e f : ℕ) → 0xE0 ≤ b → b < 0xF0 → number_utf8 b d e f ≡ ((b - 0xE0) * 64 + low_bits d) * 64 + low_bits e
 number_of_three b d e f l h =
     cond-false _ _ _ (let t : nat_lt b 0xE0 ≡ false = grind (arith, nat_tests) in t)
     ∙ cond-true _ _ _ (let t : nat_lt b 0xF0 ≡ true = grind (arith, nat_tests) in t)
@@ -77,13 +77,13 @@ number_of_four b d e f l =
 
 -- ---- what follows a first byte
 
-ranges_two : (b : ℕ) → b < 0xE0 → utf8_ranges b ≡ NEXT ∷ []
+pub ranges_two : (b : ℕ) → b < 0xE0 → utf8_ranges b ≡ NEXT ∷ []
 ranges_two b l = cond-true _ _ _ (let t : nat_lt b 0xE0 ≡ true = grind (arith, nat_tests) in t)
 
 abbrev pub second_three : ℕ → Range
 second_three b = cond (b == 0xE0) (0xA0, 0xBF) (cond (b == 0xED) (0x80, 0x9F) NEXT)
 
-ranges_three : (b : ℕ) → 0xE0 ≤ b → b < 0xF0 → utf8_ranges b ≡ second_three b ∷ NEXT ∷ []
+pub ranges_three : (b : ℕ) → 0xE0 ≤ b → b < 0xF0 → utf8_ranges b ≡ second_three b ∷ NEXT ∷ []
 ranges_three b l h =
     cond-false _ _ _ (let t : nat_lt b 0xE0 ≡ false = grind (arith, nat_tests) in t)
     ∙ of_tests (b == 0xE0) (b == 0xED) (nat_lt b 0xF0) (grind (arith, nat_tests)) _
@@ -254,3 +254,19 @@ pub chars_decoded : (sets : Sets) (kind : TextKind) (cs : List ℕ) → IsUtf8In
     → decoded sets kind (encode_utf8_all cs) ≡ map encoded cs
 unfolding decoded
 chars_decoded sets kind cs u e = chars_from sets kind cs u e
+
+-- in front of other bytes they are so too
+pub chars_ahead : (sets : Sets) (kind : TextKind) (cs after : List ℕ) → IsUtf8InForce sets → all_scalars cs ≡ true
+    → decoded_from sets kind (start_of sets) (encode_utf8_all cs ++ after) ≡ map encoded cs ++ decoded_from sets kind (start_of sets) after
+chars_ahead sets kind [] after u e = refl
+chars_ahead sets kind (c ∷ cs) after u e =
+    let both = and_parts (scalar c) (all_scalars cs) e in
+    let bytes = encode_utf8 c in
+    let others = encode_utf8_all cs ++ after in
+    let text = bytes ++ others in
+    let f : Found = one_of (start_of sets) (length bytes) c in
+    ap (decoded_from sets kind (start_of sets)) (append_assoc bytes (encode_utf8_all cs) after)
+    ∙ one_piece sets kind (start_of sets) text f (found_some true sets kind (start_of sets) text f (char_first sets kind c others u both.0))
+    ∙ ap (λ (t : List ℕ). (t, meaning.Character c) ∷ decoded_from sets kind (start_of sets) (drop (length bytes) text)) (take-append_seam bytes others)
+    ∙ ap (λ (t : List ℕ). encoded c ∷ decoded_from sets kind (start_of sets) t) (drop-append_seam bytes others)
+    ∙ ap (λ (ps : List Piece). encoded c ∷ ps) (chars_ahead sets kind cs after u both.1)

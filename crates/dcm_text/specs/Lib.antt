@@ -8,3 +8,5 @@ pub mod Runs
 pub mod TextPieces
 pub mod Shown
 pub mod Laws
+pub mod Quick
+pub mod Fronts

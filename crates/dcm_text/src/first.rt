@@ -8,6 +8,7 @@ use crate::form::{
     Fit, Form, Opening, Range, character_of, fit_of, high_pair, left_opening, low_pair, ranges,
     right_opening, starts,
 };
+use crate::quick::{quick_designation, quick_of};
 use crate::set::{Effect, Halves, Left, Right, Set, TextKind};
 use crate::sets::Sets;
 
@@ -70,7 +71,8 @@ fn designations() -> &'static [Designation]
 }
 
 /// What a character means, where there is one.
-fn meaning_of(character: Option<char>) -> Meaning
+#[inline(always)]
+pub(crate) fn meaning_of(character: Option<char>) -> Meaning
     ensures { result ≡ spec.meaning_of character }
 {
     match character {
@@ -136,6 +138,16 @@ fn designated(sets: &Sets, mut rows: &[Designation], halves: Halves, bytes: &[u8
         rows = rest;
     }
     Some(one_unknown(halves))
+}
+
+/// What bytes behind ESC are. The two designations of nearly all names are looked at first.
+fn escaped(sets: &Sets, halves: Halves, bytes: &[u8]) -> Option<Found>
+    ensures { result ≡ spec.designated sets.now spec.designations halves bytes.now }
+{
+    match quick_designation(sets, halves, bytes) {
+        Some(found) => Some(found),
+        None => designated(sets, designations(), halves, bytes),
+    }
 }
 
 /// So many bytes that are a form.
@@ -273,16 +285,29 @@ fn opened(
     }
 }
 
-/// What a text begins with, or nothing where all of it may be a part of something.
+/// The same as `first_of`, by all forms and designations.
 #[tactic(auto, unfolding(crate::specs::First::first_of))]
-pub(crate) fn first_of(sets: &Sets, kind: TextKind, halves: Halves, text: &[u8]) -> Option<Found>
+#[inline(never)]
+fn first_by_all(sets: &Sets, kind: TextKind, halves: Halves, text: &[u8]) -> Option<Found>
     ensures { result ≡ spec.first_of sets.now kind halves text.now }
 {
     let [byte, rest @ ..] = text else {
         return None;
     };
     if is_escape(sets, *byte) {
-        return designated(sets, designations(), halves, rest);
+        return escaped(sets, halves, rest);
     }
     opened(opening_of(halves, *byte), sets, kind, halves, text)
+}
+
+/// What a text begins with, or nothing where all of it may be a part of something. Nearly all characters of more than one
+/// byte are read directly.
+#[inline(always)]
+pub(crate) fn first_of(sets: &Sets, kind: TextKind, halves: Halves, text: &[u8]) -> Option<Found>
+    ensures { result ≡ spec.first_of sets.now kind halves text.now }
+{
+    match quick_of(halves, text) {
+        Some(found) => Some(found),
+        None => first_by_all(sets, kind, halves, text),
+    }
 }

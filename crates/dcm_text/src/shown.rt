@@ -77,7 +77,7 @@ fn is_in_gap(number: u32) -> bool
 }
 
 /// Whether a dump shows a character as it is.
-fn is_dumped(character: char) -> bool
+pub(crate) fn is_dumped(character: char) -> bool
     ensures { result ≡ spec.is_dumped character }
 {
     character != '%' && character != ']' && !is_hidden(character)

@@ -1,13 +1,15 @@
 //! A text that is there as a whole, piece by piece.
-ghost use Rattle.std.specs.Prelude.{◌≡◌, ◌≤◌, ◌∷◌, [], ◌++◌, true, List, length, take, map, IfSome, IfNone, MatchOption};
+ghost use Rattle.std.specs.Prelude.{◌≡◌, ◌≤◌, ◌∷◌, [], ◌++◌, true, List, length, take, drop, map, IfSome, IfNone, MatchOption};
 ghost use Rattle.std.specs.List.{list_all};
-ghost use Rattle.dcm_text.specs.Decoding.{decoded};
+ghost use Rattle.dcm_text.specs.Decoding.{decoded, decoded_from};
 ghost use Rattle.dcm_text.specs.First as first;
-ghost use Rattle.dcm_text.specs.Laws.{is_plain, as_itself};
+ghost use Rattle.dcm_text.specs.Fronts.{ArePassed};
+ghost use Rattle.dcm_text.specs.Laws.{IsUtf8InForce, is_plain, as_itself};
 
 use crate::decoder::found;
 use crate::first::{Meaning, start_of};
-use crate::set::{Halves, TextKind};
+use crate::fronts::behind_all_shown;
+use crate::set::{Halves, Right, TextKind};
 use crate::sets::Sets;
 
 /// What is left of a text that is there as a whole, and what all bytes mean there. A `Decoder` gives the same, but this
@@ -85,5 +87,49 @@ impl<'a> TextPieces<'a> {
         let (front, rest) = self.rest.split_at(size);
         self.rest = rest;
         front
+    }
+
+    /// Passes over characters in front that a dump shows as they are, and gives their bytes, at most so many: all of one,
+    /// two or three bytes, where UTF-8 is in force and the text goes on as it began. So it does behind them. Elsewhere
+    /// nothing is passed over.
+    pub fn pass_shown(&mut self, most: usize) -> &'a [u8]
+        ensures bytes { self.old.rest.now ≡ result.now ++ self.new.rest.now }
+        ensures passed { ArePassed (pieces_left self.old) (pieces_left self.new) result.now }
+        ensures within { length result.now ≤ most }
+        ensures none { result.now ≡ [] → self.new ≡ self.old }
+        ensures same { (self.new.sets ≡ self.old.sets) × (self.new.kind ≡ self.old.kind)
+            × (self.new.halves ≡ self.old.halves) }
+    {
+        let size = self.shown_size(most);
+        if size == 0 {
+            return &[];
+        }
+        let (run, rest) = self.rest.split_at(size);
+        self.rest = rest;
+        run
+    }
+
+    /// How many bytes they have.
+    fn shown_size(&self, most: usize) -> usize
+        ensures within { result ≤ most }
+        ensures left { result ≤ length self.now.rest.now }
+        ensures passed { ArePassed (pieces_left self.now)
+            (decoded_from self.now.sets self.now.kind self.now.halves (drop result self.now.rest.now))
+            (take result self.now.rest.now) }
+    {
+        if !self.is_utf8() {
+            return 0;
+        }
+        let (window, _) = self.rest.split_at(self.rest.len().min(most));
+        window.len() - behind_all_shown(window).len()
+    }
+
+    /// Whether UTF-8 is in force, and the text goes on as it began.
+    #[inline(always)]
+    fn is_utf8(&self) -> bool
+        ensures utf8 { result ≡ true → IsUtf8InForce self.now.sets }
+        ensures start { result ≡ true → self.now.halves ≡ first.start_of self.now.sets }
+    {
+        matches!(self.sets.start(), Right::Utf8) && !self.sets.is_extended() && self.is_at_start()
     }
 }

@@ -28,3 +28,4 @@ pub mod DecodedUtf8
 pub mod DecodedShort
 pub mod PlainRuns
 pub mod WholeTexts
+pub mod WholeSteps

@@ -1,9 +1,10 @@
 // What is next in a whole text by Specific Character Set.
-ghost use Rattle.std.specs.Prelude.{◌≡◌, ◌≤◌, ◌+◌, ◌++◌, [], length, flat_map, IfSome, IfNone};
-ghost use Rattle.dcm_text.specs.Shown.{dumped_piece};
+ghost use Rattle.std.specs.Prelude.{◌≡◌, ◌≤◌, ◌+◌, ◌++◌, [], true, ℕ, length, take, IfSome, IfNone};
+ghost use Rattle.std.specs.List.{list_all};
+ghost use Rattle.dcm_text.specs.First.{start_of};
 ghost use Rattle.dcm_text.specs.TextPieces.{pieces_left};
-ghost use Rattle.dcm_value.specs.Decoded.{backslashes as all_backslashes};
 ghost use Rattle.dcm_value.specs.NextPiece as spec;
+ghost use Rattle.dcm_value.specs.Plain.{is_ascii_byte};
 
 use crate::decoded::is_backslash;
 use crate::escapes::{ascii_front, backslashes};
@@ -14,7 +15,7 @@ use dcm_text::{Meaning, TextPieces, append_dumped};
 /// What is next.
 #[derive(Drop)]
 pub enum Next<'a> {
-    /// ASCII that is shown as it is.
+    /// Bytes of ASCII or of UTF-8 that are shown as they are.
     Plain(&'a [u8]),
     /// Some other bytes, and what they are.
     Piece(&'a [u8], Meaning),
@@ -25,7 +26,7 @@ impl<'a> Next<'a> {
     pub fn show<const N: usize>(&self, most: usize, shown: &mut ArrayVec<u8, N>)
         requires next { spec.IsNext most self.now }
         requires room { length shown.old.items + (12 + most) ≤ N }
-        ensures items { shown.new.items ≡ shown.old.items ++ flat_map dumped_piece (spec.pieces_of self.now) }
+        ensures items { shown.new.items ≡ shown.old.items ++ spec.shown_of self.now }
         ensures within { length shown.new.items ≤ length shown.old.items + (12 + most) }
     {
         match self {
@@ -37,7 +38,7 @@ impl<'a> Next<'a> {
     /// How many backslashes it has.
     pub fn backslashes(&self) -> usize
         requires { 1 ≤ length (spec.bytes_of self.now) }
-        ensures count { result ≡ all_backslashes (spec.pieces_of self.now) }
+        ensures count { result ≡ spec.count_of self.now }
         ensures few { result ≤ length (spec.bytes_of self.now) }
     {
         match self {
@@ -47,24 +48,82 @@ impl<'a> Next<'a> {
     }
 }
 
-/// Takes what is next of a whole text; nothing at its end. ASCII that is shown as it is comes many bytes at once, where
-/// the text goes on as it began.
+/// Takes what is next of a whole text; nothing at its end. What is shown as it is comes many bytes at once, where the
+/// text goes on as it began.
 pub fn next_of<'a>(pieces: &mut TextPieces<'a>, most: usize) -> Option<Next<'a>>
     ensures next { IfSome result (λ next. spec.Follows pieces.old pieces.new next) }
     ensures fits { IfSome result (λ next. spec.IsNext most next) }
     ensures none { IfNone result (pieces_left pieces.old ≡ []) }
     ensures ended { IfNone result (pieces.new ≡ pieces.old) }
 {
-    if pieces.is_at_start() {
-        let rest = pieces.rest();
-        let (window, _) = rest.split_at(rest.len().min(most));
-        let size = ascii_front(window);
-        if size > 0 {
-            return Some(Next::Plain(pieces.pass_plain(size)));
-        }
+    if !pieces.is_at_start() {
+        return next_single(pieces);
     }
+    match next_run(pieces, most) {
+        Some(next) => Some(next),
+        None => next_single(pieces),
+    }
+}
+
+/// The same, piece by piece.
+fn next_single<'a>(pieces: &mut TextPieces<'a>) -> Option<Next<'a>>
+    ensures next { IfSome result (λ next. spec.Follows pieces.old pieces.new next) }
+    ensures fits { IfSome result (λ next. (most : ℕ) → spec.IsNext most next) }
+    ensures none { IfNone result (pieces_left pieces.old ≡ []) }
+    ensures ended { IfNone result (pieces.new ≡ pieces.old) }
+{
     match pieces.next() {
         Some((bytes, meaning)) => Some(Next::Piece(bytes, meaning)),
         None => None,
+    }
+}
+
+/// Takes bytes in front that are shown as they are, at most so many, and nothing where there are none. Where all of them
+/// are ASCII, no character is looked at.
+fn next_run<'a>(pieces: &mut TextPieces<'a>, most: usize) -> Option<Next<'a>>
+    requires start { pieces.old.halves ≡ start_of pieces.old.sets }
+    ensures next { IfSome result (λ next. spec.Follows pieces.old pieces.new next) }
+    ensures fits { IfSome result (λ next. spec.IsNext most next) }
+    ensures none { IfNone result (pieces.new ≡ pieces.old) }
+{
+    let rest = pieces.rest();
+    let (window, _) = rest.split_at(rest.len().min(most));
+    let size = ascii_front(window);
+    if size == window.len() {
+        return next_plain(pieces, size);
+    }
+    match next_shown(pieces, most) {
+        Some(next) => Some(next),
+        None => next_plain(pieces, size),
+    }
+}
+
+/// Takes so many bytes of ASCII, which are shown as they are.
+fn next_plain<'a>(pieces: &mut TextPieces<'a>, size: usize) -> Option<Next<'a>>
+    requires start { pieces.old.halves ≡ start_of pieces.old.sets }
+    requires within { size ≤ length pieces.old.rest.now }
+    requires plain { list_all is_ascii_byte (take size pieces.old.rest.now) ≡ true }
+    ensures next { IfSome result (λ next. spec.Follows pieces.old pieces.new next) }
+    ensures fits { IfSome result (λ next. spec.IsNext size next) }
+    ensures none { IfNone result (pieces.new ≡ pieces.old) }
+{
+    if size > 0 {
+        Some(Next::Plain(pieces.pass_plain(size)))
+    } else {
+        None
+    }
+}
+
+/// Takes characters of UTF-8 that are shown as they are, at most so many bytes, where UTF-8 is in force.
+fn next_shown<'a>(pieces: &mut TextPieces<'a>, most: usize) -> Option<Next<'a>>
+    ensures next { IfSome result (λ next. spec.Follows pieces.old pieces.new next) }
+    ensures fits { IfSome result (λ next. spec.IsNext most next) }
+    ensures none { IfNone result (pieces.new ≡ pieces.old) }
+{
+    let run = pieces.pass_shown(most);
+    if run.is_empty() {
+        None
+    } else {
+        Some(Next::Plain(run))
     }
 }

@@ -1,6 +1,6 @@
 -- A whole text by Specific Character Set, piece by piece.
-use Rattle.std.proofs.Common.{◌≡◌, ◌≤◌, ◌<◌, ℕ, ◌+◌, ◌-◌, Bool, true, false, cond, List, [], ◌∷◌, ◌++◌, length, take, replicate, codes, ap, sym, ◌∙◌, refl, arith, append_assoc, append-nil}
-use Rattle.std.specs.Prelude.{not, nat_lt, nat_le, flat_map, slice_index}
+use Rattle.std.proofs.Common.{◌≡◌, ◌≤◌, ◌<◌, ℕ, ◌+◌, ◌-◌, Bool, true, cond, List, ◌++◌, length, take, replicate, codes, ap, sym, ◌∙◌, arith, append-nil}
+use Rattle.std.specs.Prelude.{not, nat_lt, flat_map, slice_index}
 use Rattle.std.specs.List.{list_all}
 use Rattle.std.proofs.Math.ListN.{get_or-append}
 use Rattle.std.proofs.lemmas.Bool.Decides.{nat_tests}
@@ -16,8 +16,8 @@ use Rattle.dcm_text.specs.TextPieces.{pieces_left}
 use Rattle.dcm_value.specs.declared.next_piece.Next.{Next}
 use Rattle.dcm_value.specs.Plain.{is_ascii_byte, ascii_size}
 use Rattle.dcm_value.specs.Decoded.{goes_on, is_backslash, backslashes, cut_size}
-use Rattle.dcm_value.specs.DecodedDisplay.{bracketed_pieces, decoded_shortened}
-use Rattle.dcm_value.specs.NextPiece.{Follows, pieces_of, bytes_of}
+use Rattle.dcm_value.specs.DecodedDisplay.{decoded_shortened}
+use Rattle.dcm_value.specs.NextPiece.{Follows, bytes_of, shown_of, count_of}
 use Rattle.dcm_value.proofs.Displays.DecodedEndings.{cut_bounds}
 use Rattle.dcm_value.proofs.Displays.PlainRuns.{ascii_front}
 
@@ -30,13 +30,16 @@ front_plain rest window k size w s l =
 
 -- what is shown, and the backslashes, of what is next and of what is left then
 pub left_shown : (old new : TextPieces) (next : Next) → Follows old new next
-    → flat_map dumped_piece (pieces_left old) ≡ flat_map dumped_piece (pieces_of next) ++ flat_map dumped_piece (pieces_left new)
-left_shown old new next f = ap (flat_map dumped_piece) f.pieces ∙ flat_map-append dumped_piece (pieces_of next) (pieces_left new)
+    → flat_map dumped_piece (pieces_left old) ≡ shown_of next ++ flat_map dumped_piece (pieces_left new)
+left_shown old new next f =
+    ap (flat_map dumped_piece) f.left ∙ flat_map-append dumped_piece f.pieces (pieces_left new)
+    ∙ ap (λ (x : List ℕ). x ++ flat_map dumped_piece (pieces_left new)) f.shown
 
 pub left_counted : (old new : TextPieces) (next : Next) → Follows old new next
-    → backslashes (pieces_left old) ≡ backslashes (pieces_of next) + backslashes (pieces_left new)
+    → backslashes (pieces_left old) ≡ count_of next + backslashes (pieces_left new)
 left_counted old new next f =
-    ap backslashes f.pieces ∙ sum_by-append (λ (x : Piece). cond (is_backslash x.1) 1 0) (pieces_of next) (pieces_left new)
+    ap backslashes f.left ∙ sum_by-append (λ (x : Piece). cond (is_backslash x.1) 1 0) f.pieces (pieces_left new)
+    ∙ ap (λ (n : ℕ). n + backslashes (pieces_left new)) f.count
 
 pub left_fewer : (old new : TextPieces) (next : Next) → Follows old new next
     → length old.rest.now ≡ length (bytes_of next) + length new.rest.now
