@@ -43,6 +43,7 @@ fn copied<const N: usize>(bytes: &[u8]) -> ArrayVec<u8, N>
 }
 
 /// What a text begins with, where it ends or goes on.
+#[inline(always)]
 pub(crate) fn found(
     sets: &Sets,
     kind: TextKind,

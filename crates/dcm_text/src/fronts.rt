@@ -93,6 +93,7 @@ fn behind_shown(text: &[u8]) -> Option<&[u8]>
 }
 
 /// What is behind all characters in front of a text in UTF-8 that a dump shows as they are.
+#[inline(never)]
 pub(crate) fn behind_all_shown(text: &[u8]) -> &[u8]
     ensures { AreBehind text.now result.now }
 {

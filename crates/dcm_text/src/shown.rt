@@ -36,6 +36,7 @@ fn hidden() -> &'static [Characters]
 }
 
 /// Whether a number is in one of the ranges.
+#[inline(never)]
 fn is_in(mut ranges: &[Characters], number: u32) -> bool
     ensures { result ≡ list_any (λ r. is_between r.0 r.1 number) ranges.entry.now }
 {
@@ -50,6 +51,7 @@ fn is_in(mut ranges: &[Characters], number: u32) -> bool
 
 /// Whether a dump shows a character by its bytes: it shows nothing, or changes how others are shown, or is none (the last
 /// two of each plane).
+#[inline(always)]
 pub fn is_hidden(character: char) -> bool
     ensures { result ≡ spec.is_hidden character }
 {
@@ -62,6 +64,7 @@ pub fn is_hidden(character: char) -> bool
 
 /// Whether a character lies in one of the long gaps between those of the table. Nearly all letters do: ASCII, Latin,
 /// Greek and Cyrillic, Hebrew to Georgian, kana, and kanji with hangul. The table is not looked through for them.
+#[inline(always)]
 fn is_in_gap(number: u32) -> bool
     ensures { result ≡ true → spec.is_hidden number ≡ false }
 {
@@ -77,6 +80,7 @@ fn is_in_gap(number: u32) -> bool
 }
 
 /// Whether a dump shows a character as it is.
+#[inline(always)]
 pub(crate) fn is_dumped(character: char) -> bool
     ensures { result ≡ spec.is_dumped character }
 {
@@ -118,6 +122,18 @@ fn append<const N: usize>(bytes: &[u8], text: &mut ArrayVec<u8, N>)
     match text.try_extend_from_slice(bytes) {
         Ok(()) => (),
         Err(_) => unreachable!(),
+    }
+}
+
+/// The same for a character by its bytes. Nearly all characters of Asia have three, and so many are copied without a call.
+#[inline(always)]
+fn append_character<const N: usize>(bytes: &[u8], text: &mut ArrayVec<u8, N>)
+    requires { length text.old.items + length bytes.now ≤ N }
+    ensures { text.new.items ≡ text.old.items ++ bytes.now }
+{
+    match bytes {
+        [first, second, third] => append(&[*first, *second, *third], text),
+        _ => append(bytes, text),
     }
 }
 
@@ -178,7 +194,7 @@ pub fn append_dumped<const N: usize>(bytes: &[u8], meaning: Meaning, text: &mut 
     match meaning {
         Meaning::Character(character) if is_dumped(character) => {
             let mut buffer = [0; 4];
-            append(character.encode_utf8(&mut buffer).as_bytes(), text);
+            append_character(character.encode_utf8(&mut buffer).as_bytes(), text);
         }
         Meaning::Character(_) | Meaning::Unknown => append(percents(bytes).as_slice(), text),
         Meaning::Designation => (),

@@ -55,6 +55,7 @@ impl<'a> TextPieces<'a> {
     }
 
     /// The next piece: its bytes, and what they are; nothing at the end of the text.
+    #[inline(always)]
     pub fn next(&mut self) -> Option<(&'a [u8], Meaning)>
         ensures left { MatchOption result (pieces_left self.old ≡ [])
             (λ p. pieces_left self.old ≡ (p.0.now, p.1) ∷ pieces_left self.new) }
@@ -92,6 +93,7 @@ impl<'a> TextPieces<'a> {
     /// Passes over characters in front that a dump shows as they are, and gives their bytes, at most so many: all of one,
     /// two or three bytes, where UTF-8 is in force and the text goes on as it began. So it does behind them. Elsewhere
     /// nothing is passed over.
+    #[inline(always)]
     pub fn pass_shown(&mut self, most: usize) -> &'a [u8]
         ensures bytes { self.old.rest.now ≡ result.now ++ self.new.rest.now }
         ensures passed { ArePassed (pieces_left self.old) (pieces_left self.new) result.now }
@@ -110,6 +112,7 @@ impl<'a> TextPieces<'a> {
     }
 
     /// How many bytes they have.
+    #[inline(always)]
     fn shown_size(&self, most: usize) -> usize
         ensures within { result ≤ most }
         ensures left { result ≤ length self.now.rest.now }

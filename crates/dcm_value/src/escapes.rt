@@ -81,7 +81,8 @@ pub fn is_plain_text(bytes: &[u8]) -> bool
 }
 
 /// Whether a byte of a text is shown as it is by each Specific Character Set.
-fn is_ascii(byte: u8) -> bool
+#[inline(always)]
+pub fn is_ascii(byte: u8) -> bool
     ensures { result ≡ is_ascii_byte byte }
 {
     byte >= 32 && byte <= LAST_ASCII && byte != b'%' && byte != b']'

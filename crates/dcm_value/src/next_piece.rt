@@ -7,7 +7,7 @@ ghost use Rattle.dcm_value.specs.NextPiece as spec;
 ghost use Rattle.dcm_value.specs.Plain.{is_ascii_byte};
 
 use crate::decoded::is_backslash;
-use crate::escapes::{ascii_front, backslashes};
+use crate::escapes::{ascii_front, backslashes, is_ascii};
 use crate::units::append;
 use arrayvec::ArrayVec;
 use dcm_text::{Meaning, TextPieces, append_dumped};
@@ -23,6 +23,7 @@ pub enum Next<'a> {
 
 impl<'a> Next<'a> {
     /// Appends what is shown of it.
+    #[inline(always)]
     pub fn show<const N: usize>(&self, most: usize, shown: &mut ArrayVec<u8, N>)
         requires next { spec.IsNext most self.now }
         requires room { length shown.old.items + (12 + most) ≤ N }
@@ -36,6 +37,7 @@ impl<'a> Next<'a> {
     }
 
     /// How many backslashes it has.
+    #[inline(always)]
     pub fn backslashes(&self) -> usize
         requires { 1 ≤ length (spec.bytes_of self.now) }
         ensures count { result ≡ spec.count_of self.now }
@@ -50,6 +52,7 @@ impl<'a> Next<'a> {
 
 /// Takes what is next of a whole text; nothing at its end. What is shown as it is comes many bytes at once, where the
 /// text goes on as it began.
+#[inline(always)]
 pub fn next_of<'a>(pieces: &mut TextPieces<'a>, most: usize) -> Option<Next<'a>>
     ensures next { IfSome result (λ next. spec.Follows pieces.old pieces.new next) }
     ensures fits { IfSome result (λ next. spec.IsNext most next) }
@@ -66,6 +69,7 @@ pub fn next_of<'a>(pieces: &mut TextPieces<'a>, most: usize) -> Option<Next<'a>>
 }
 
 /// The same, piece by piece.
+#[inline(always)]
 fn next_single<'a>(pieces: &mut TextPieces<'a>) -> Option<Next<'a>>
     ensures next { IfSome result (λ next. spec.Follows pieces.old pieces.new next) }
     ensures fits { IfSome result (λ next. (most : ℕ) → spec.IsNext most next) }
@@ -80,6 +84,7 @@ fn next_single<'a>(pieces: &mut TextPieces<'a>) -> Option<Next<'a>>
 
 /// Takes bytes in front that are shown as they are, at most so many, and nothing where there are none. Where all of them
 /// are ASCII, no character is looked at.
+#[inline(always)]
 fn next_run<'a>(pieces: &mut TextPieces<'a>, most: usize) -> Option<Next<'a>>
     requires start { pieces.old.halves ≡ start_of pieces.old.sets }
     ensures next { IfSome result (λ next. spec.Follows pieces.old pieces.new next) }
@@ -87,6 +92,12 @@ fn next_run<'a>(pieces: &mut TextPieces<'a>, most: usize) -> Option<Next<'a>>
     ensures none { IfNone result (pieces.new ≡ pieces.old) }
 {
     let rest = pieces.rest();
+    let [first, ..] = rest else {
+        return None;
+    };
+    if !is_ascii(*first) {
+        return next_shown(pieces, most);
+    }
     let (window, _) = rest.split_at(rest.len().min(most));
     let size = ascii_front(window);
     if size == window.len() {
@@ -99,6 +110,7 @@ fn next_run<'a>(pieces: &mut TextPieces<'a>, most: usize) -> Option<Next<'a>>
 }
 
 /// Takes so many bytes of ASCII, which are shown as they are.
+#[inline(always)]
 fn next_plain<'a>(pieces: &mut TextPieces<'a>, size: usize) -> Option<Next<'a>>
     requires start { pieces.old.halves ≡ start_of pieces.old.sets }
     requires within { size ≤ length pieces.old.rest.now }
@@ -115,6 +127,7 @@ fn next_plain<'a>(pieces: &mut TextPieces<'a>, size: usize) -> Option<Next<'a>>
 }
 
 /// Takes characters of UTF-8 that are shown as they are, at most so many bytes, where UTF-8 is in force.
+#[inline(always)]
 fn next_shown<'a>(pieces: &mut TextPieces<'a>, most: usize) -> Option<Next<'a>>
     ensures next { IfSome result (λ next. spec.Follows pieces.old pieces.new next) }
     ensures fits { IfSome result (λ next. spec.IsNext most next) }
