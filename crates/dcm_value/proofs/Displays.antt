@@ -26,6 +26,8 @@ pub mod DecodedWholes
 pub mod DecodedAsBefore
 pub mod DecodedUtf8
 pub mod DecodedShort
+pub mod DecodedPieces
 pub mod PlainRuns
 pub mod WholeTexts
 pub mod WholeSteps
+pub mod OutInBlocks

@@ -4,7 +4,8 @@
 //!   value in any pieces and writes the text as it goes; with `Mode::Short` it holds the 66 bytes that may be cut.
 //! - `DecodedText` is the same by Specific Character Set, for values that are shown in brackets or by name: characters in
 //!   UTF-8, and bytes without a character by their numbers.
-//! - `append_decoded` appends to a line what `DecodedText` shows of a whole value, without a state, where that fits a line.
+//! - `append_decoded` appends to a line what `DecodedText` shows of a whole value, without a state, where that fits a line,
+//!   and `put_decoded` writes it right out in full mode, where it does not.
 //! - `is_plain_value` tells whether a value is its bytes by each of these sets, so that `ValueText` shows the same.
 //! - `append_whole` appends to a line what a dump shows of a whole value, without a state, where that is known at once,
 //!   and `append_few` does so for few numbers.
@@ -40,6 +41,7 @@ mod value_text;
 mod way;
 mod whole;
 mod whole_decoded;
+mod whole_put;
 
 pub use dcm_base::Mode;
 pub use decoded_text::{DecodedText, is_plain_value};
@@ -55,3 +57,4 @@ pub use value_text::ValueText;
 pub use way::takes_bytes;
 pub use whole::append_whole;
 pub use whole_decoded::append_decoded;
+pub use whole_put::put_decoded;

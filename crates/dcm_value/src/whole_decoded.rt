@@ -20,14 +20,14 @@ use dcm_base::{Mode, Vr};
 use dcm_text::{Sets, TextPieces};
 
 /// The longest display that is not cut.
-const UNCUT: usize = 66;
+pub const UNCUT: usize = 66;
 
 /// The most bytes of ASCII that are shown at once.
 const RUN: usize = 64;
 
 /// The room for a display that is not cut, or for the front of a longer one: one step shows at most so many bytes, or
 /// the twelve of a piece.
-const ROOM: usize = UNCUT + RUN + 12;
+pub const ROOM: usize = UNCUT + RUN + 12;
 
 /// Appends what a dump shows of a whole value by Specific Character Set, with the spaces up to 40 bytes. In short mode a
 /// long display is cut, and no character of it. The answer is how many values there are; or nothing, and then nothing is
@@ -95,7 +95,7 @@ fn append_text<const N: usize>(
 }
 
 /// How many values a text has that has so many backslashes.
-fn count(vr: Vr, backslashes: u64) -> u64
+pub fn count(vr: Vr, backslashes: u64) -> u64
     requires { backslashes < 2 ^ 63 }
     ensures { result ≡ (if is_one vr then 1 else 1 + backslashes) }
 {
@@ -127,7 +127,7 @@ fn count_rest(pieces: &mut TextPieces) -> u64
 }
 
 /// Shows pieces until nothing is left, or the display will be long, and counts the backslashes among them.
-fn show_front(pieces: &mut TextPieces, shown: &mut ArrayVec<u8, ROOM>) -> u64
+pub fn show_front(pieces: &mut TextPieces, shown: &mut ArrayVec<u8, ROOM>) -> u64
     requires begun { length shown.old.items ≤ 65 }
     requires few { length pieces.old.rest.now < 2 ^ 63 }
     ensures shown { shown.new.items ++ flat_map dumped_piece (pieces_left pieces.new)

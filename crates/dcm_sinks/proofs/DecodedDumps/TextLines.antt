@@ -29,6 +29,11 @@ pub then_ok : {T E : Type 0} {A B : Type 0} (r : Result T E) → OnOk r A → (A
 then_ok (Ok x) a f = f a
 then_ok (Err x) a f = tt
 
+-- what holds in any case
+pub always : {T E : Type 0} (r : Result T E) (P : Type 0) → P → OnOk r P
+always (Ok x) P h = h
+always (Err x) P h = tt
+
 -- ---- bytes that pass
 
 pub took_passed : (sets : Sets) (lines new : DumpState) (before after : Option Owner) (p q : DecodedProgress) (bytes : List ℕ) → before ≡ None → after ≡ None

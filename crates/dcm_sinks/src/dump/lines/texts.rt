@@ -3,6 +3,7 @@ ghost use Rattle.std.specs.Prelude.{◌≡◌, true, OnOk, false, map, fold};
 ghost use Rattle.std.specs.Option.{ForSome};
 ghost use Rattle.dcm_base.specs.Steps.Atoms.{value_byte, closes_leaf};
 ghost use Rattle.dcm_devices.specs.Writing.{Wrote};
+ghost use Rattle.dcm_base.specs.declared.mode.Mode.TheVariants.{Full};
 ghost use Rattle.dcm_stream.specs.Tokens.{atoms_of, whole_atoms, IsLeaf};
 ghost use Rattle.dcm_sinks.specs.DumpSink.{dump_start};
 ghost use Rattle.dcm_sinks.specs.Encoder.{opening};
@@ -11,14 +12,14 @@ ghost use Rattle.dcm_value.specs.DecodedProgress as progress;
 ghost use Rattle.dcm_value.specs.DecodedText.{decoded_progress};
 
 use super::{Lines, Owner, begin_late, put_early_start, size_of};
-use crate::dump::layout::{begin_line, put_rest};
+use crate::dump::layout::{begin_line, put_line_start, put_rest};
 use dcm_base::{
     DeviceOut, Dictionary, Form, Length, Mode, Syntax, Vr, Watched, WriteFailed, form_of, read_as,
 };
 use dcm_head::Head;
 use dcm_stream::Token;
 use dcm_text::Sets;
-use dcm_value::{DecodedText, append_decoded, is_plain_value, takes_bytes};
+use dcm_value::{DecodedText, append_decoded, is_plain_value, put_decoded, takes_bytes};
 
 /// Where a dump is whose texts are shown by characters: the lines of all else, whose text is being shown, and the text.
 /// Where none is, the text is of none.
@@ -227,7 +228,7 @@ impl TextLines {
         begin_line(&mut self.lines.line, level, head.tag, head.vr.letters());
         let shown = append_decoded(self.lines.mode, head.vr, sets, value, &mut self.lines.line);
         let Some(count) = shown else {
-            return self.take_in_parts(out, head, syntax, value, sets);
+            return self.put_other(out, head, syntax, value, sets);
         };
         self.owner = None;
         self.lines.owner = None;
@@ -235,6 +236,62 @@ impl TextLines {
             out,
             self.lines.dictionary,
             &mut self.lines.line,
+            head.tag,
+            head.length,
+            count,
+        )
+    }
+
+    /// Writes the line of a text that is whole, of which the line has no more than its start.
+    fn put_other<W: DeviceOut>(
+        &mut self,
+        out: &mut Watched<W>,
+        head: Head,
+        syntax: Syntax,
+        value: &[u8],
+        sets: Sets,
+    ) -> Result<(), WriteFailed>
+        requires leaf { IsLeaf head syntax value.now }
+        requires text { spec.opens_text (state self.old) head.tag head.vr head.length syntax ≡ true }
+        ensures state { OnOk result (state self.new
+            ≡ fold (spec.text_step sets) (state self.old) (whole_atoms head syntax value.now)) }
+        ensures wrote { Wrote W.DeviceOut out.old out.new
+            (shows sets (state self.old) (whole_atoms head syntax value.now)) result }
+    {
+        match self.lines.mode {
+            Mode::Short => self.take_in_parts(out, head, syntax, value, sets),
+            Mode::Full => self.put_in_full(out, head, syntax, value, sets),
+        }
+    }
+
+    /// Writes the line of a text that is whole in full mode: its start, its display, of any length, and the rest.
+    fn put_in_full<W: DeviceOut>(
+        &mut self,
+        out: &mut Watched<W>,
+        head: Head,
+        syntax: Syntax,
+        value: &[u8],
+        sets: Sets,
+    ) -> Result<(), WriteFailed>
+        requires leaf { IsLeaf head syntax value.now }
+        requires full { self.old.lines.mode ≡ Full }
+        requires text { spec.opens_text (state self.old) head.tag head.vr head.length syntax ≡ true }
+        ensures state { OnOk result (state self.new
+            ≡ fold (spec.text_step sets) (state self.old) (whole_atoms head syntax value.now)) }
+        ensures wrote { Wrote W.DeviceOut out.old out.new
+            (shows sets (state self.old) (whole_atoms head syntax value.now)) result }
+    {
+        let lines = &mut self.lines;
+        let level = lines.lengths.depth();
+        put_line_start(out, &mut lines.line, level, head.tag, head.vr.letters())?;
+        let count = put_decoded(head.vr, sets, value, out)?;
+        self.owner = None;
+        lines.owner = None;
+        lines.line.clear();
+        put_rest(
+            out,
+            lines.dictionary,
+            &mut lines.line,
             head.tag,
             head.length,
             count,

@@ -1,4 +1,4 @@
-use Rattle.std.proofs.Common.{rules, ap, sym, subst, ◌≡◌, ◌∙◌, List, ℕ, ◌++◌, length, OnOk, Option, Result, Ok, Err}
+use Rattle.std.proofs.Common.{rules, ap, sym, subst, ◌≡◌, ◌∙◌, List, ℕ, ◌++◌, length, Option}
 use Rattle.std.specs.Prelude.{MatchOption}
 use Rattle.dcm_base.specs.Dump.Dump.{line_start}
 use Rattle.dcm_base.specs.Tables.Representation.{letters}
@@ -6,13 +6,9 @@ use Rattle.dcm_devices.specs.Device.{Puts}
 use Rattle.dcm_value.specs.DecodedDisplay.{decoded_text_of, decoded_count}
 use Rattle.dcm_sinks.specs.Layout.{line_rest}
 use Rattle.dcm_sinks.specs.TextLines.{state}
+use Rattle.dcm_sinks.proofs.DecodedDumps.TextLines.{always}
 use Rattle.dcm_sinks.proofs.DecodedDumps.TextRuns.{whole_leaves, whole_shown}
 use Rattle.dcm_sinks.proofs.dump.lines.texts.TextLines.put_text.Goals as goal
-
--- what holds in any case
-always : {T E : Type 0} (r : Result T E) (P : Type 0) → P → OnOk r P
-always (Ok x) P h = h
-always (Err x) P h = tt
 
 pub returns-clause-state : goal.returns-clause-state
 returns-clause-state g c =
