@@ -297,17 +297,14 @@ impl<'a, S: Sink> DeidentifySink<'a, S> {
         self.place.may_show
     }
 
-    /// Takes an element with its whole value by its tokens, one after another.
+    /// Takes an element with its whole value by its tokens, one after another. It is not inlined: of few elements a value
+    /// is held, and the way of the others stays small.
     #[inline(never)]
     fn take_by_token(&mut self, head: Head, syntax: Syntax, value: &[u8]) -> Result<(), WriteFailed>
         ensures { sinks.Took ⟦<DeidentifySink<'a, S> as Sink>⟧ self.old self.new
             (whole_atoms head syntax value.now) result }
     {
-        self.take(Token::Open(head, syntax))?;
-        if !value.is_empty() {
-            self.take(Token::Bytes(value))?;
-        }
-        self.take(Token::CloseLeaf)
+        self.take_by_tokens(head, syntax, value)
     }
 
     /// Takes an element with its whole value within what is left out. Nothing comes of it, unless a value is held.

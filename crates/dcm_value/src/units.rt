@@ -24,8 +24,8 @@ pub enum Kind {
 /// The bytes of the longest unit.
 const LONGEST_UNIT: usize = 8;
 
-/// The bytes that the text of a unit with its backslash has room for. The longest, a number of eight bytes, has 21. With
-/// 24, three for each of those bytes, a block of units has as much text as its bytes have where each is escaped.
+/// The bytes that the text of a unit with its backslash has room for. The longest, a number of eight bytes, has 21.
+/// With 24, three for each of those bytes, a block of units has as much text as its bytes have where each is escaped.
 pub const LONGEST: usize = 24;
 
 /// How a value is shown whose units are no text.
@@ -234,8 +234,8 @@ pub const BLOCK_BYTES: usize = LONGEST_UNIT * BLOCK;
 /// Room for the text of a block of units.
 pub const BLOCK_TEXT: usize = LONGEST * BLOCK;
 
-/// Units that are few. Their buffers are blanked in a few steps, where those of a block take longer than the units. With
-/// ten they are of 80 and 240 bytes, which are 5 and 15 stores of sixteen, and a matrix of three by three is few.
+/// Units that are few. Their buffers are blanked in a few steps, where those of a block take longer than the units.
+/// With ten they are of 80 and 240 bytes, which are 5 and 15 stores of sixteen, and a matrix of three by three is few.
 pub const FEW: usize = 10;
 
 /// The most bytes of few units.
