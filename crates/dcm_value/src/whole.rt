@@ -1,15 +1,17 @@
 // The display of a whole value that is known at once.
-ghost use Rattle.std.specs.Prelude.{◌≡◌, ◌==◌, if◌then◌else◌, ◌+◌, ◌<◌, ◌≤◌, ◌++◌, length, codes, count_by};
-ghost use Rattle.std.specs.Prelude.{IfSome, MatchOption, is_some};
+ghost use Rattle.std.specs.Prelude.{◌≡◌, ◌==◌, ◌&&◌, if◌then◌else◌, ◌+◌, ◌<◌, ◌≤◌, ◌++◌, length, codes, count_by};
+ghost use Rattle.std.specs.Prelude.{IfSome, MatchOption, is_some, nat_le};
 ghost use Rattle.dcm_base.specs.declared.mode.Mode.{Mode as AnyMode};
 ghost use Rattle.dcm_base.specs.Dump.ValueText.{shape, padded, bracketed, identified, is_single as is_one};
 ghost use Rattle.dcm_base.specs.Dump.ValueText.{unpadded as kept};
+ghost use Rattle.std.specs.List.{list_all};
+ghost use Rattle.dcm_value.specs.Plain.{is_ascii_byte};
 ghost use Rattle.dcm_value.specs.Way as ways;
 ghost use Rattle.dcm_value.specs.Progress.{end_writes, multiplicity};
 ghost use Rattle.dcm_value.specs.Whole as spec;
 
 use crate::display::append_spaces;
-use crate::escapes::{backslashes, is_plain_text};
+use crate::escapes::{backslashes, is_plain_ascii, is_plain_text};
 use crate::way::{Way, is_single, unpadded, way_of};
 use arrayvec::ArrayVec;
 use dcm_base::{Syntax, Vr, uid_name};
@@ -83,6 +85,24 @@ fn append_plain<const N: usize>(text: &[u8], line: &mut ArrayVec<u8, N>) -> bool
         append_bracketed(text, line);
     }
     is_plain
+}
+
+/// Appends a text of at most 64 bytes in brackets, with spaces, if it is shown as it is whatever Specific Character Set is
+/// in force. The answer is how many values it has.
+pub fn append_ascii<const N: usize>(vr: Vr, text: &[u8], line: &mut ArrayVec<u8, N>) -> Option<u64>
+    requires room { length line.old.items + 66 ≤ N }
+    ensures items { MatchOption result (line.new.items ≡ line.old.items)
+        (λ n. (line.new.items ≡ line.old.items ++ padded (codes "[" ++ text.now ++ codes "]"))
+        × (n ≡ (if is_one vr then 1 else 1 + count_by (λ b. b == 92) text.now))) }
+    ensures within { length line.new.items ≤ length line.old.items + 66 }
+    ensures known { is_some result ≡ (nat_le (length text.now) LONGEST_TEXT && list_all is_ascii_byte text.now) }
+{
+    if text.len() <= LONGEST_TEXT && is_plain_ascii(text) {
+        append_bracketed(text, line);
+        Some(count(vr, text))
+    } else {
+        None
+    }
 }
 
 /// Appends a unique identifier by its name, or in brackets if it is shown as it is, with spaces.

@@ -106,9 +106,12 @@ text_low sets t e = all_as is_ascii_byte low (λ b f. (alike sets b f).is_low) t
 pub text_plain : (sets : Sets) (t : List ℕ) → list_all is_ascii_byte t ≡ true → list_all (is_plain sets) t ≡ true
 text_plain sets t e = all_as is_ascii_byte (is_plain sets) (λ b f. (alike sets b f).plain) t e
 
+pub text_itself : (sets : Sets) (kind : TextKind) (t : List ℕ) → list_all is_ascii_byte t ≡ true → dumped sets kind t ≡ t
+text_itself sets kind t e = ascii_dump sets kind t (text_plain sets t e) ∙ all_shown sets t e
+
 pub text_dumped : (sets : Sets) (kind : TextKind) (t : List ℕ) → list_all is_ascii_byte t ≡ true → dumped sets kind t ≡ escaped t
 text_dumped sets kind t e =
-    ascii_dump sets kind t (text_plain sets t e) ∙ all_shown sets t e
+    text_itself sets kind t e
     ∙ sym (plain_escaped t (all_as is_ascii_byte is_plain_byte (λ b f. (alike sets b f).before) t e))
 
 pub itself_counted : (t : List ℕ) → backslashes (map as_itself t) ≡ count_by (λ b. b == 92) t
@@ -118,7 +121,7 @@ itself_counted (b ∷ bs) =
     ∙ ap (λ n. cond (b == 92) 1 0 + n) (itself_counted bs)
     ∙ sym (sum_by-cons (λ (x : ℕ). cond (x == 92) 1 0) b bs)
 
-text_counted : (sets : Sets) (kind : TextKind) (t : List ℕ) → list_all is_ascii_byte t ≡ true → backslashes (decoded sets kind t) ≡ count_by (λ b. b == 92) t
+pub text_counted : (sets : Sets) (kind : TextKind) (t : List ℕ) → list_all is_ascii_byte t ≡ true → backslashes (decoded sets kind t) ≡ count_by (λ b. b == 92) t
 text_counted sets kind t e = ap backslashes (plain_decoded sets kind t (text_plain sets t e)) ∙ itself_counted t
 
 -- ---- the pad byte is no backslash

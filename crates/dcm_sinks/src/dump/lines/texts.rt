@@ -1,6 +1,7 @@
 // The lines of a dump whose texts are shown by characters.
-ghost use Rattle.std.specs.Prelude.{◌≡◌, true, OnOk, false, map, fold};
+ghost use Rattle.std.specs.Prelude.{◌≡◌, ◌&&◌, nat_le, true, OnOk, false, map, fold};
 ghost use Rattle.std.specs.Option.{ForSome};
+ghost use Rattle.dcm_base.specs.Tables.Representation.{is_text};
 ghost use Rattle.dcm_base.specs.Steps.Atoms.{value_byte, closes_leaf};
 ghost use Rattle.dcm_devices.specs.Writing.{Wrote};
 ghost use Rattle.dcm_base.specs.declared.mode.Mode.TheVariants.{Full};
@@ -30,6 +31,18 @@ pub struct TextLines {
     text: DecodedText,
     ghost begun: { ForSome owner (λ _. progress.is_unopened (decoded_progress text) ≡ false) },
     ghost same: { ForSome owner (λ _. (decoded_progress text).display.mode ≡ lines.mode) },
+}
+
+/// The most bytes of a text that goes right to its line. Of a longer one it is first asked whether it is plain ASCII, which
+/// goes out faster as before.
+const SHORT: usize = 64;
+
+/// Whether a value is a short text, and no unique identifier.
+#[inline(always)]
+fn is_short_text(vr: Vr, size: usize) -> bool
+    ensures { result ≡ (nat_le size SHORT && is_text vr) }
+{
+    size <= SHORT && vr.is_text()
 }
 
 /// Whether an element is shown as before, whatever is in force: one that is no text, or of plain ASCII.
@@ -298,8 +311,9 @@ impl TextLines {
         )
     }
 
-    /// Writes what an element makes whose value is whole, as `take` does by its head, its bytes and its end. What is
-    /// shown as without characters goes the way of `Lines`, and most other texts are appended right to the line.
+    /// Writes what an element makes whose value is whole, as `take` does by its head, its bytes and its end. Short texts
+    /// are appended right to the line, so that they are looked at once. All else that is shown as without characters goes
+    /// the way of `Lines`.
     #[inline(always)]
     pub fn take_whole<W: DeviceOut>(
         &mut self,
@@ -315,6 +329,9 @@ impl TextLines {
         ensures wrote { Wrote W.DeviceOut out.old out.new
             (shows sets (state self.old) (whole_atoms head syntax value.now)) result }
     {
+        if is_short_text(head.vr, value.len()) && !self.lines.is_lost {
+            return self.put_text(out, head, syntax, value, sets);
+        }
         if is_as_before(head.vr, value) {
             self.owner = None;
             return self.lines.take_whole(out, head, syntax, value);
