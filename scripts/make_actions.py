@@ -27,7 +27,7 @@ MARKS_HEADER = """
 #[rattlefmt::skip]
 pub const MARKS: [u64; {words}] = [
 """
-# how the code finds the mark of a number: `mark_of` in crates/dcm_deid/src/fate.rt
+# how the code finds the mark of a number: `mark_of` in crates/dcm_deid/src/fate.rt, by `spread` of dcm_base
 SPREAD = 0x9E37_79B9
 NUMBERS_OF_A_MARK = 0x8_0000
 ALL_NUMBERS = 0x1_0000_0000

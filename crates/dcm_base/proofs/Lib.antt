@@ -4,3 +4,4 @@ pub mod Conversions
 pub mod Writes
 pub mod Dictionaries
 pub mod Letters
+pub mod Spreads

@@ -5,6 +5,7 @@
 //!   extract or the whole; `uid_name` and `uid_of`; `coding_of` a transfer syntax; `form_of` an element.
 //! - **Faults**: `Fault` of a file, `LineFault` of lines, `EditRefusal` and `WordFault` of words, each with its number
 //!   and text. `Stopped` says why a reading or a building goes no further: a refusal, or an output that failed.
+//! - **Places**: `spread` gives a number, as that of a tag, its place in an index.
 //! - **Devices**: those of `dcm_devices`, handed on under the same names.
 //! - **`specs`** has the definitions that the contracts of all crates cite: data sets as trees, how bytes spell them,
 //!   dumps, conversions, files that are built. `laws` has what is proved of the definitions alone.
@@ -25,6 +26,7 @@ mod length;
 mod level;
 mod limits;
 mod mode;
+mod spreading;
 mod stopped;
 mod syntax;
 mod tag;
@@ -47,6 +49,7 @@ pub use length::Length;
 pub use level::{Container, Level, MOST_LISTS, MOST_OPEN};
 pub use limits::{LINE_LIMIT, VALUE_LIMIT};
 pub use mode::Mode;
+pub use spreading::spread;
 pub use stopped::Stopped;
 pub use syntax::{Coding, Syntax};
 pub use tag::{ITEM_GROUP, META_GROUP, Tag};

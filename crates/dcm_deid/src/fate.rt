@@ -6,7 +6,7 @@ ghost use Rattle.dcm_deid.specs.Fate as spec;
 ghost use Rattle.dcm_deid.specs.Marks as marking;
 
 use crate::table::{ACTIONS, Action, MARKS};
-use dcm_base::{Dictionary, Tag, Vr, known_vr_in};
+use dcm_base::{Dictionary, Tag, Vr, known_vr_in, spread};
 
 /// How many marks there are to a word of them.
 const MARKS_OF_A_WORD: usize = 64;
@@ -14,20 +14,15 @@ const MARKS_OF_A_WORD: usize = 64;
 /// How many words of marks there are.
 const WORDS: usize = 128;
 
-/// How many numbers there are for each mark.
-const NUMBERS_OF_A_MARK: u64 = 0x8_0000;
-
-/// How many numbers there are.
-const ALL_NUMBERS: u64 = 0x1_0000_0000;
+/// There are two to the power of so many marks. With 8,192 for the 562 numbers of the table one in fifteen of the others
+/// has a mark too, and they are 1 KB, which stays in the nearest cache.
+const MARK_BITS: u32 = 13;
 
 /// PatientID.
 pub const PATIENT_ID: Tag = Tag {
     group: 0x0010,
     element: 0x0020,
 };
-
-/// Spreads numbers that are close to each other: 2^32 divided by the golden ratio.
-const SPREAD: u64 = 0x9E37_79B9;
 
 /// What a value is that is made anew.
 #[derive(Clone, Copy, Debug, PartialEq, Eq)]
@@ -183,7 +178,7 @@ fn mark_of(number: u32) -> usize
     ensures value { result ≡ marking.mark_of number }
     ensures small { result < 8192 }
 {
-    (number as u64 * SPREAD % ALL_NUMBERS / NUMBERS_OF_A_MARK) as usize
+    spread(number, MARK_BITS)
 }
 
 /// Whether the mark of a number is set.

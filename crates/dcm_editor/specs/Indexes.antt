@@ -1,8 +1,9 @@
 -- The masks of the edits by tags.
-use Rattle.std.specs.Prelude.{◌≡◌, ℕ, ◌+◌, ◌*◌, ◌/◌, ◌%◌, suc, List, [], ◌∷◌, map, Bool, true, ◌&&◌, ◌==◌, if◌then◌else◌, slice_index}
+use Rattle.std.specs.Prelude.{◌≡◌, ℕ, ◌+◌, ◌%◌, suc, List, [], ◌∷◌, map, Bool, true, ◌&&◌, ◌==◌, if◌then◌else◌, slice_index}
 use Rattle.std.specs.Int.Bits.{bit_and, bit_or}
 use Rattle.dcm_base.specs.declared.tag.Tag.{Tag}
-use Rattle.dcm_base.specs.Tables.Tag.{is_private}
+use Rattle.dcm_base.specs.Tables.Spread.{spread}
+use Rattle.dcm_base.specs.Tables.Tag.{is_private, tag_number}
 use Rattle.dcm_edits.specs.Edit.{Index, number, every, PathEdit, step, insert, modify, erase, erase_item}
 use Rattle.dcm_edits.specs.Edit.{Edit, on_path, modify_all, erase_all, erase_private, elsewhere}
 use Rattle.dcm_editor.specs.Masks.{is_set, bits}
@@ -12,16 +13,12 @@ use Rattle.dcm_editor.specs.Asking.{is_everywhere}
 use Rattle.dcm_editor.specs.declared.index.TagIndex.{TagIndex}
 use Rattle.dcm_editor.specs.declared.index.TagMasks.{TagMasks}
 
--- the number of a mask
-abbrev pub spread : ℕ → ℕ
-spread m = m * 2654435769 % 4294967296 / 16777216
-
--- that of the mask for a tag, and for an item of the sequence with this tag
+-- the number of the mask, among 256, for a tag, and for an item of the sequence with this tag
 abbrev pub bucket_of : Tag → ℕ
-bucket_of tag = spread (tag.group * 65536 + tag.element)
+bucket_of tag = spread (tag_number tag) 8
 
 abbrev pub bucket_of_item : Tag → ℕ → ℕ
-bucket_of_item tag n = spread ((tag.group * 65536 + tag.element + n + 1) % 4294967296)
+bucket_of_item tag n = spread ((tag_number tag + n + 1) % 4294967296) 8
 
 abbrev pub mask_at : TagMasks → Tag → ℕ
 mask_at masks tag = slice_index masks.buckets (bucket_of tag)

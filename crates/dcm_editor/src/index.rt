@@ -10,21 +10,18 @@ ghost use Rattle.std.specs.Int.Bits.{bit_and};
 use crate::asked::{Question, is_private};
 use crate::mask::{all, with_bit};
 use crate::place::Asked;
-use dcm_base::Tag;
+use dcm_base::{Tag, spread};
 use dcm_edits::{Action, Edit, Index, Step};
 use std::alloc::Allocator;
 
-/// How many masks there are for the tags.
+/// How many masks there are for the tags. With 256 for the tags of at most 64 edits few other tags share one with them.
 const BUCKETS: usize = 256;
 
-/// How many tags there are for each mask.
-const TAGS_OF_A_BUCKET: u64 = 0x100_0000;
+/// Two to the power of so many are `BUCKETS`.
+const BUCKET_BITS: u32 = 8;
 
 /// How many tags there are.
 const ALL_TAGS: u64 = 0x1_0000_0000;
-
-/// Spreads tags that are close to each other: 2^32 divided by the golden ratio.
-const SPREAD: u64 = 0x9E37_79B9;
 
 /// For each tag a mask of the edits that name it, among those of a few other tags.
 #[derive(Drop)]
@@ -44,23 +41,13 @@ pub struct TagIndex {
     everywhere: u64,
 }
 
-/// The number of the mask for such a number.
-#[inline(always)]
-fn spread(number: u64) -> usize
-    requires { number < 0x1_0000_0000 }
-    ensures value { result ≡ indexes.spread number }
-    ensures small { result < 256 }
-{
-    (number * SPREAD % ALL_TAGS / TAGS_OF_A_BUCKET) as usize
-}
-
 /// The number of the mask for a tag.
 #[inline(always)]
 fn bucket_of(tag: Tag) -> usize
     ensures value { result ≡ indexes.bucket_of tag }
     ensures small { result < 256 }
 {
-    spread(tag.group as u64 * 0x1_0000 + tag.element as u64)
+    spread(tag.number(), BUCKET_BITS)
 }
 
 /// The number of the mask for an item of a sequence. That of the sequence itself is for each item.
@@ -69,8 +56,8 @@ fn bucket_of_item(tag: Tag, item: u32) -> usize
     ensures value { result ≡ indexes.bucket_of_item tag item }
     ensures small { result < 256 }
 {
-    let number = tag.group as u64 * 0x1_0000 + tag.element as u64 + item as u64 + 1;
-    spread(number % ALL_TAGS)
+    let number = u64::from(tag.number()) + u64::from(item) + 1;
+    spread((number % ALL_TAGS) as u32, BUCKET_BITS)
 }
 
 impl TagMasks {

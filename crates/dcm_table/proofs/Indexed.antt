@@ -4,7 +4,8 @@ use Rattle.std.specs.Prelude.{◌==◌, ◌&&◌, ◌||◌, not, min, if◌then�
 use Rattle.std.proofs.lemmas.Bool.Decides.{nat_tests}
 use mathlib.Core.Bool.{true≢false}
 use Rattle.dcm_base.specs.declared.tag.Tag.{Tag}
-use Rattle.dcm_base.specs.Tables.Tag.{same_tag}
+use Rattle.dcm_base.specs.Tables.Tag.{same_tag, tag_number}
+use Rattle.dcm_base.proofs.Spreads.{spread_within}
 use Rattle.dcm_table.specs.declared.index.Span.{Span}
 use Rattle.dcm_table.specs.declared.index.Index.{Index}
 use Rattle.dcm_base.specs.declared.vr.Vr.{Vr}
@@ -281,7 +282,7 @@ pub record IndexedSoFar (index : Index) (slots : List HeldSlot) (i : ℕ) : Type
   pub size : length index.spans ≡ 256
 
 within_places : (tag : Tag) → place_of tag < 256
-within_places tag = omega arith
+within_places tag = spread_within (tag_number tag) 8 (omega arith)
 
 at_own : (index : Index) (tag : Tag) (column : ℕ) (p : ℕ) → p ≡ place_of tag → length index.spans ≡ 256
     → get_or (added index tag column).spans p NONE ≡ both (span_of index tag) (record { first = column; after = column + 1 })

@@ -1,7 +1,9 @@
 -- Where the columns of a tag are.
-use Rattle.std.specs.Prelude.{ℕ, suc, List, [], ◌∷◌, ◌+◌, ◌*◌, ◌%◌, get_or, set, min, max, nat_le, nat_lt, Bool, true, false}
+use Rattle.std.specs.Prelude.{ℕ, suc, List, [], ◌∷◌, ◌+◌, get_or, set, min, max, nat_le, nat_lt, Bool, true, false}
 use Rattle.std.specs.Prelude.{◌&&◌, ◌||◌, not, if◌then◌else◌}
 use Rattle.dcm_base.specs.declared.tag.Tag.{Tag}
+use Rattle.dcm_base.specs.Tables.Spread.{spread}
+use Rattle.dcm_base.specs.Tables.Tag.{tag_number}
 use Rattle.dcm_head.specs.declared.head.Head.{Head}
 use Rattle.dcm_stream.specs.Skip.{is_open}
 use Rattle.dcm_table.specs.declared.index.Span.{Span}
@@ -25,8 +27,9 @@ is_in span column = nat_le span.first column && nat_lt column span.after
 abbrev pub is_empty : Span → Bool
 is_empty span = nat_le span.after span.first
 
+-- the place of a tag, of 256
 abbrev pub place_of : Tag → ℕ
-place_of tag = (tag.group * 37 + tag.element) % 256
+place_of tag = spread (tag_number tag) 8
 
 abbrev pub span_of : Index → Tag → Span
 span_of index tag = get_or index.spans (place_of tag) NONE

@@ -4,14 +4,13 @@ ghost use Rattle.dcm_table.specs.Index as spec;
 ghost use Rattle.dcm_table.specs.Slots.{slots_of};
 
 use crate::slot::Slot;
-use dcm_base::Tag;
+use dcm_base::{Tag, spread};
 
-/// How many places an index has.
+/// How many places an index has: with 256 for at most 64 columns most tags have a place of no column.
 const PLACES: usize = 256;
 
-/// How far apart the places of two groups are that follow each other. It is odd, so that no two groups near each other
-/// have the same places.
-const GROUP_STEP: usize = 37;
+/// Two to the power of so many are `PLACES`.
+const PLACE_BITS: u32 = 8;
 
 /// A run of columns: the first, and the one after the last. It is of no column where the first is not below that.
 #[derive(Clone, Copy, Debug, PartialEq, Eq)]
@@ -50,7 +49,7 @@ fn place_of(tag: Tag) -> usize
     ensures value { result ≡ spec.place_of tag }
     ensures within { result < 256 }
 {
-    (usize::from(tag.group) * GROUP_STEP + usize::from(tag.element)) % PLACES
+    spread(tag.number(), PLACE_BITS)
 }
 
 /// Of each place the columns of its tags.
