@@ -1,5 +1,5 @@
 -- The pieces of a whole value by Specific Character Set.
-use Rattle.std.proofs.Common.{◌≡◌, ◌≤◌, ◌==◌, ◌&&◌, ◌+◌, ◌++◌, sym, ap, ◌∙◌, List, ℕ, Bool, codes, cond, true, false, length, arith}
+use Rattle.std.proofs.Common.{◌≡◌, ◌≤◌, ◌==◌, ◌&&◌, ◌+◌, ◌++◌, sym, ap, ◌∙◌, List, ℕ, codes, cond, true, false, length, arith}
 use Rattle.std.specs.Prelude.{count_by, nat_le}
 use Rattle.std.specs.List.{list_all}
 use Rattle.std.proofs.lemmas.Bool.{and_parts}
@@ -13,7 +13,7 @@ use Rattle.dcm_text.specs.declared.sets.Sets.{Sets}
 use Rattle.dcm_text.specs.Decoding.{Piece, decoded}
 use Rattle.dcm_text.specs.Shown.{dumped}
 use Rattle.dcm_value.specs.Decoded.{backslashes}
-use Rattle.dcm_value.specs.DecodedDisplay.{bracketed_pieces, decoded_display, decoded_count, decoded_shortened, decoded_text_of}
+use Rattle.dcm_value.specs.DecodedDisplay.{bracketed_pieces, decoded_display, decoded_count, decoded_text_of}
 use Rattle.dcm_value.specs.DecodedProgress.{sets_for, kind_of, is_named}
 use Rattle.dcm_value.specs.Plain.{is_ascii_byte}
 use Rattle.dcm_value.proofs.Displays.DecodedAsBefore.{text_itself, text_counted}

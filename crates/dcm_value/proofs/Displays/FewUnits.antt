@@ -1,5 +1,5 @@
 -- A value of few units, in both modes.
-use Rattle.std.proofs.Common.{◌≡◌, ◌≤◌, ◌<◌, ℕ, zero, suc, ◌+◌, ◌*◌, ◌/◌, List, [], ◌∷◌, ◌++◌, length, take, drop, map, codes, ap, sym, ◌∙◌, arith, refl, cond, subst}
+use Rattle.std.proofs.Common.{◌≡◌, ◌≤◌, ◌<◌, ℕ, zero, suc, ◌+◌, ◌*◌, ◌/◌, List, length, take, drop, map, ap, sym, ◌∙◌, arith, cond}
 use Rattle.std.specs.List.{join_with_byte}
 use Rattle.std.proofs.Math.Nat.{lt-div-mul-add}
 use Rattle.dcm_base.specs.declared.vr.Vr.{Vr}

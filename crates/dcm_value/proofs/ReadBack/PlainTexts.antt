@@ -1,9 +1,8 @@
 -- The bytes of a text in brackets up to the first that is an escape or ends it.
-use Rattle.std.proofs.Common.{◌≡◌, ◌≤◌, ℕ, suc, ◌+◌, ◌==◌, ◌||◌, List, [], ◌∷◌, ◌++◌, length, take, drop, Option, Some, None, refl, subst, ap, sym, ◌∙◌, cond, true, false, Bool, not, arith}
+use Rattle.std.proofs.Common.{◌≡◌, ◌≤◌, ℕ, suc, ◌+◌, ◌==◌, ◌||◌, List, [], ◌∷◌, length, take, drop, Option, Some, None, refl, subst, ap, sym, ◌∙◌, cond, true, false, Bool, not, arith}
 use Rattle.std.specs.Prelude.{position}
 use Rattle.std.specs.List.{position_or_len}
-use Rattle.std.specs.Str.{byte}
-use Rattle.dcm_base.specs.Lines.ReadValue.{◌>>=◌, bracketed_value}
+use Rattle.dcm_base.specs.Lines.ReadValue.{bracketed_value}
 use Rattle.dcm_value.specs.Taking.{behind}
 use Rattle.dcm_value.proofs.ReadBack.Parts.{plain_byte, some_place, no_place}
 

@@ -1,4 +1,4 @@
-use Rattle.std.proofs.Common.{◌≡◌, ◌≤◌, ◌<◌, ◌+◌, List, ℕ, [], ◌∷◌, ◌++◌, cond, length, codes, take, ap, sym, ◌∙◌, arith, rules, append_assoc}
+use Rattle.std.proofs.Common.{◌≡◌, ◌≤◌, ◌<◌, ◌+◌, List, ℕ, [], ◌∷◌, ◌++◌, cond, length, codes, take, ap, sym, ◌∙◌, arith, append_assoc}
 use Rattle.std.specs.Prelude.{◌||◌, flat_map, nat_le}
 use Rattle.std.proofs.lemmas.List.{length-append}
 use Rattle.dcm_base.specs.declared.mode.Mode.{Mode}

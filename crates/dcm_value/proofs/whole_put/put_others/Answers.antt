@@ -4,7 +4,7 @@ use Rattle.dcm_text.specs.Decoding.{Piece}
 use Rattle.dcm_text.specs.Shown.{dumped_piece}
 use Rattle.dcm_text.specs.TextPieces.{pieces_left}
 use Rattle.dcm_devices.proofs.Writes.Puts.{puts_err}
-use Rattle.dcm_value.specs.NextPiece.{pieces_of}
+use Rattle.dcm_value.specs.NextPiece.{shown_of}
 use Rattle.dcm_value.proofs.Displays.OutInBlocks.{out_more, out_fails, out_ends, block_split, block_room}
 use Rattle.dcm_value.proofs.Displays.WholeTexts.{left_shown, left_counted, left_fewer}
 use Rattle.dcm_value.proofs.whole_put.put_others.Goals as goal
@@ -21,7 +21,7 @@ loop-next-preserved g c =
     let rest : List ℕ = flat_map dumped_piece (pieces_left c.next_of.new.pieces) in
     let follows = c.in-Some.ensures.next in
     let whole =
-    in_block c.loop-next.block.items block (flat_map dumped_piece (pieces_of c.in-Some.next)) _ rest
+    in_block c.loop-next.block.items block (shown_of c.in-Some.next) _ rest
     (left_shown c.loop-next.pieces c.next_of.new.pieces c.in-Some.next follows) c.show.ensures.items
     in
     let kept : c.put_full.new.block.items ≡ cond full [] block = c.in_ok-put_full.ensures.block in
@@ -42,7 +42,7 @@ returns-in_err-put_full-clause-wrote g c =
     let full : Bool = nat_lt 756 (length block) in
     let rest : List ℕ = flat_map dumped_piece (pieces_left c.next_of.new.pieces) in
     let whole =
-    in_block c.loop-next.block.items block (flat_map dumped_piece (pieces_of c.in-Some.next)) _ rest
+    in_block c.loop-next.block.items block (shown_of c.in-Some.next) _ rest
     (left_shown c.loop-next.pieces c.next_of.new.pieces c.in-Some.next c.in-Some.ensures.next) c.show.ensures.items
     in
     record {
