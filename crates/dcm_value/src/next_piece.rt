@@ -8,7 +8,7 @@ ghost use Rattle.dcm_value.specs.Plain.{is_ascii_byte};
 
 use crate::decoded::is_backslash;
 use crate::escapes::{ascii_front, backslashes, is_ascii};
-use crate::units::append;
+use crate::units::append_many;
 use arrayvec::ArrayVec;
 use dcm_text::{Meaning, TextPieces, append_dumped};
 
@@ -31,7 +31,7 @@ impl<'a> Next<'a> {
         ensures within { length shown.new.items ≤ length shown.old.items + (12 + most) }
     {
         match self {
-            Next::Plain(bytes) => append(bytes, shown),
+            Next::Plain(bytes) => append_many(bytes, shown),
             Next::Piece(bytes, meaning) => append_dumped(bytes, *meaning, shown),
         }
     }

@@ -12,7 +12,7 @@ use crate::decoded::cut_size;
 use crate::decoded_text::{kind_of, may_have_name, read_by};
 use crate::display::append_spaces;
 use crate::next_piece::next_of;
-use crate::units::append;
+use crate::units::{append, append_many};
 use crate::way::{is_single, unpadded};
 use crate::whole::{append_ascii, append_no_value};
 use arrayvec::ArrayVec;
@@ -84,7 +84,7 @@ fn append_text<const N: usize>(
     let front = show_front(pieces, &mut shown);
     if shown.len() < UNCUT {
         shown.push(b']');
-        append(shown.as_slice(), line);
+        append_many(shown.as_slice(), line);
         append_spaces(shown.len(), line);
         return Some(count(vr, front));
     }
@@ -157,6 +157,6 @@ fn append_cut<const N: usize>(display: &[u8], line: &mut ArrayVec<u8, N>)
     ensures within { length line.new.items ≤ length line.old.items + 66 }
 {
     let (left, _) = display.split_at(cut_size(display).min(display.len()));
-    append(left, line);
+    append_many(left, line);
     append(b"...", line);
 }

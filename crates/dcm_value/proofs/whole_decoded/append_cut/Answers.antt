@@ -7,9 +7,9 @@ pub returns-clause-items : goal.returns-clause-items
 returns-clause-items g c =
     let line : List ℕ = c.args.line.now.items in
     let display : List ℕ = c.args.display.now in
-    c.append-2.ensures
+    c.append.ensures
     ∙ ap (λ (x : List ℕ). x ++ codes "...")
-    (c.append.ensures
+    (c.append_many.ensures
     ∙ ap (λ (x : List ℕ). line ++ x)
     (c.split_at.ensures.front ∙ ap (λ n. take n display) c.min.ensures ∙ take_min c.cut_size.result display
     ∙ ap (λ n. take n display) c.cut_size.ensures.value))
