@@ -49,7 +49,7 @@ rises_both st (x ∷ xs) ys h k = (h.0, rises_both (reached_after st x) xs ys h.
 
 -- ---- a byte shows one head at most, and first
 
-abbrev NoHead : Atom → Type 0
+abbrev pub NoHead : Atom → Type 0
 NoHead (opens tag vr declared s) = true ≡ false
 NoHead (value_byte b) = Unit {0}
 NoHead closes_leaf = Unit {0}
@@ -59,11 +59,11 @@ NoHead closes_sequence = Unit {0}
 NoHead (opens_fragment size) = Unit {0}
 NoHead ends = Unit {0}
 
-abbrev NoHeads : List Atom → Type 0
+abbrev pub NoHeads : List Atom → Type 0
 NoHeads [] = Unit {0}
 NoHeads (a ∷ atoms) = NoHead a × NoHeads atoms
 
-abbrev OneHead : List Atom → Type 0
+abbrev pub OneHead : List Atom → Type 0
 OneHead [] = Unit {0}
 OneHead (a ∷ atoms) = NoHeads atoms
 
@@ -152,7 +152,7 @@ read_one r z (Some stop) = by_test (is_undecided (Some stop))
     by_test true = tt
     by_test false = tt
 
-byte_one : (bar : HeadBar) (r : Reading) (b : ℕ) (halt : Option Stop) (within : Bool) (n : ℕ) → OneHead (byte_read bar r b halt within n).1
+pub byte_one : (bar : HeadBar) (r : Reading) (b : ℕ) (halt : Option Stop) (within : Bool) (n : ℕ) → OneHead (byte_read bar r b halt within n).1
 byte_one bar r b (Some stop) within n = tt
 byte_one bar r b None false n = tt
 byte_one bar r b None true (suc n) = settled_one (r.position + 1) (value_left n (sign_reads (b ∷ []) r.sign) r.levels (value_byte b ∷ [])) n (closing_none n)
