@@ -3,7 +3,7 @@ use Rattle.std.specs.Prelude.{◌≡◌, true, ◌≤◌, ◌<◌, ◌⊎◌, �
 use Rattle.std.specs.Prelude.{drop, slice_index, Option, Some, None}
 use Rattle.dcm_base.specs.declared.tag.Tag.{Tag}
 use Rattle.dcm_base.specs.declared.vr.Vr.{Vr}
-use Rattle.dcm_base.specs.declared.vr.Vr.TheVariants.{SQ, UN}
+use Rattle.dcm_base.specs.declared.vr.Vr.TheVariants.{UN}
 use Rattle.dcm_base.specs.declared.syntax.Syntax.{Syntax}
 use Rattle.dcm_base.specs.declared.length.Length.TheVariants.{Known}
 use Rattle.dcm_base.specs.Tables.Number.{number}
@@ -43,23 +43,6 @@ pub record BeginsShort (s : Syntax) (bytes : List ℕ) (head : Head) : Type 0 wh
   pub tag_is : head.tag ≡ tag_at s bytes
   pub of_data : is_data head.tag ≡ true
   pub short : is_long head.vr ≡ false
-  pub known : (n : ℕ) × (head.length ≡ Known n)
-
--- whether elements of a representation have a value, whatever their tags: all but sequences, and those that are unknown
-abbrev pub has_value : Vr → Bool
-has_value SQ = false
-has_value UN = false
-has_value _ = true
-
--- they begin with the head of an element that is of neither an item nor the meta group. It has so many bytes, and tells
--- the length of a value
-pub record BeginsPlain (s : Syntax) (bytes : List ℕ) (head : Head) (size : ℕ) : Type 0 where
-  pub read : Done head size ≡ tag_read s bytes (tag_at s bytes)
-  pub tag_is : head.tag ≡ tag_at s bytes
-  pub of_data : is_data head.tag ≡ true
-  pub least : 8 ≤ size
-  pub fits : size ≤ length bytes
-  pub valued : has_value head.vr ≡ true
   pub known : (n : ℕ) × (head.length ≡ Known n)
 
 -- the head that the bytes begin with, or what is missing to it

@@ -1,8 +1,7 @@
 // Heads as bytes (PS3.5 7.1.2, 7.1.3, 7.5).
-ghost use Rattle.std.specs.Prelude.{◌≡◌, true, ◌≤◌, length, slice_index, IfSome, Some};
+ghost use Rattle.std.specs.Prelude.{◌≡◌, true, ◌≤◌, length, IfSome};
 ghost use Rattle.dcm_base.specs.Bytes.Head.{tag_at, vr_at, long_length};
 ghost use Rattle.dcm_base.specs.declared.syntax.Syntax.TheVariants.{Little as little_in};
-ghost use Rattle.dcm_base.specs.Reading.Place.{is_data};
 ghost use Rattle.dcm_base.specs.Tables.Number.{number};
 ghost use Rattle.dcm_base.specs.Conversion.Recode as recode;
 ghost use Rattle.dcm_base.specs.Tables.Representation.{is_capital as is_capital_letter, vr_read};
@@ -128,22 +127,6 @@ pub fn read_explicit(syntax: Syntax, tag: Tag, bytes: &[u8]) -> HeadRead
     HeadRead::Done(Head { tag, vr, length }, LONG_HEAD)
 }
 
-/// The tag and the representation that the bytes begin with in an explicit syntax, where they are an element's. Items,
-/// and elements of the meta group, are left out.
-#[inline(always)]
-fn plain_start(syntax: Syntax, bytes: &[u8]) -> Option<(Tag, Vr)>
-    requires { 8 ≤ length bytes.now }
-    ensures tag { IfSome result (λ r. (r.0 ≡ tag_at syntax bytes.now) × (is_data r.0 ≡ true)) }
-    ensures vr { IfSome result (λ r. Some r.1 ≡ vr_read (slice_index bytes.now 4) (slice_index bytes.now 5)) }
-{
-    let tag = read_tag(syntax, bytes);
-    if tag.group == ITEM_GROUP || tag.group == META_GROUP {
-        return None;
-    }
-    let vr = read_vr(bytes[4], bytes[5])?;
-    Some((tag, vr))
-}
-
 /// The head that the bytes begin with, where it is that of an element in explicit little endian with a length of two
 /// bytes. Nearly all heads are such. Items, and elements of the meta group, are left out.
 #[inline(always)]
@@ -152,42 +135,16 @@ pub fn read_short_head(dictionary: Dictionary, bytes: &[u8]) -> Option<Head>
     ensures { IfSome result (spec.BeginsShort (little_in dictionary) bytes.now) }
 {
     let syntax = Syntax::Little(dictionary);
-    let (tag, vr) = plain_start(syntax, bytes)?;
+    let tag = read_tag(syntax, bytes);
+    if tag.group == ITEM_GROUP || tag.group == META_GROUP {
+        return None;
+    }
+    let vr = read_vr(bytes[4], bytes[5])?;
     if vr.is_long() {
         return None;
     }
     let length = Length::Known(u32::from(read_short(syntax, &bytes[6..])));
     Some(Head { tag, vr, length })
-}
-
-/// Whether elements of a representation have a value, whatever their tags.
-#[inline(always)]
-fn has_value(vr: Vr) -> bool
-    ensures { result ≡ spec.has_value vr }
-{
-    !matches!(vr, Vr::SQ | Vr::UN)
-}
-
-/// The head that the bytes begin with, where it is that of an element in explicit little endian with a length of four
-/// bytes, and a value follows it. So sequences are left out, unknown representations and undefined lengths, and as in
-/// `read_short_head` items and the meta group.
-#[inline(always)]
-pub fn read_long_head(dictionary: Dictionary, bytes: &[u8]) -> Option<Head>
-    ensures { IfSome result (λ head. spec.BeginsPlain (little_in dictionary) bytes.now head 12) }
-{
-    if bytes.len() < LONG_HEAD {
-        return None;
-    }
-    let syntax = Syntax::Little(dictionary);
-    let (tag, vr) = plain_start(syntax, bytes)?;
-    if !vr.is_long() || !has_value(vr) {
-        return None;
-    }
-    let length = read_long(syntax, &bytes[8..]);
-    match length {
-        Length::Known(_) => Some(Head { tag, vr, length }),
-        Length::Undefined => None,
-    }
 }
 
 /// The head of an element with this tag.

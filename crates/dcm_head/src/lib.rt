@@ -3,8 +3,7 @@
 //!
 //! - `read_head` reads a head out of the first bytes that it is given, or says how many it needs; `write_head` writes
 //!   one, and `plain_head` that of an item or a delimiter. `put_element_head` writes one to a device. Nearly all heads
-//!   are short ones in explicit little endian: `read_short_head` reads these alone, and faster. `read_long_head` reads
-//!   those whose length has four bytes.
+//!   are short ones in explicit little endian: `read_short_head` reads these alone, and faster.
 //! - `Meta` reads the head of a file, fed in any pieces, and holds it: at most 16,528 bytes. `Meta::rewritten` writes
 //!   its group anew with another transfer syntax, a `SyntaxUid`; `write_meta` does so of any group, and `first_element`
 //!   walks over one. `Meta::renewed` writes what a `Renewal` leaves of its elements.
@@ -33,8 +32,7 @@ mod write;
 pub use element::{MetaElement, first_element};
 pub use group::META_LIMIT;
 pub use head::{
-    Head, HeadRead, LONG_HEAD, SHORT_HEAD, read_head, read_long_head, read_short_head, read_tag,
-    read_tagged,
+    Head, HeadRead, LONG_HEAD, SHORT_HEAD, read_head, read_short_head, read_tag, read_tagged,
 };
 pub use meta::{Meta, PREAMBLE, PREFIX};
 pub use meta_read::{MetaEnd, MetaRead};

@@ -15,7 +15,7 @@ use Rattle.dcm_stream.specs.declared.cursor.Cursor.{Cursor}
 use Rattle.dcm_stream.specs.declared.whole_leaf.WholeLeaf.{WholeLeaf}
 use Rattle.dcm_stream.specs.declared.judge.Opening.{Opening}
 use Rattle.dcm_stream.specs.declared.judge.Opening.TheVariants as opening
-use Rattle.dcm_head.specs.HeadRead.{BeginsPlain}
+use Rattle.dcm_head.specs.HeadRead.{BeginsShort}
 use Rattle.dcm_stream.specs.Places.{innermost}
 use Rattle.dcm_stream.specs.Reading.{Reading, settled}
 use Rattle.dcm_stream.specs.Tokens.{IsLeaf, whole_atoms}
@@ -36,14 +36,14 @@ pub record IsWhole (o : Opening) (leaf : WholeLeaf) : Type 0 where
   pub is_leaf : IsLeaf leaf.head leaf.syntax leaf.value.now
   pub no_sign : says_sign leaf.head.tag ≡ false
 
--- bytes begin with this element, whose head has so many bytes, and which is no PixelRepresentation
-pub record IsPlain (s : Syntax) (bytes : List ℕ) (leaf : WholeLeaf) (size : ℕ) : Type 0 where
+-- bytes begin with this element, whose head has a length of two bytes, and which is no PixelRepresentation
+pub record IsPlain (s : Syntax) (bytes : List ℕ) (leaf : WholeLeaf) : Type 0 where
   pub eight : 8 ≤ length bytes
-  pub head : BeginsPlain s bytes leaf.head size
+  pub head : BeginsShort s bytes leaf.head
   pub syntax_is : leaf.syntax ≡ s
   pub length_is : leaf.head.length ≡ Known (length leaf.value.now)
   pub no_sign : says_sign leaf.head.tag ≡ false
-  pub front : IsFront leaf.value.now (drop size bytes)
+  pub front : IsFront leaf.value.now (drop 8 bytes)
 
 -- whether elements may come in it
 abbrev pub holds_elements : Container → Bool

@@ -1,4 +1,4 @@
-// Runs of elements in explicit little endian whose values are whole (PS3.5 7.1.2).
+// Runs of elements in explicit little endian whose heads are short and whose values are whole (PS3.5 7.1.2).
 ghost use Rattle.std.specs.Prelude.{◌≡◌, ◌+◌, ◌<◌, ◌≤◌, [], None, false, length, IfSome, IfOk};
 ghost use Rattle.dcm_base.specs.declared.syntax.Syntax.TheVariants.{Little as little_in};
 ghost use Rattle.dcm_base.specs.Reading.Place as place;
@@ -33,19 +33,19 @@ fn dictionary_inside(levels: &OpenLevels) -> Option<Dictionary>
     }
 }
 
-/// The plain element that the bytes begin with, where the sink takes it, and the number of bytes of its head.
+/// The plain element that the bytes begin with, where the sink takes it.
 #[inline(always)]
 fn accepted_leaf<'p, S: Sink>(
     dictionary: Dictionary,
     bytes: &'p [u8],
     sink: &S,
-) -> Option<(WholeLeaf<'p>, usize)>
-    ensures plain { IfSome result (λ r. whole.IsPlain (little_in dictionary) bytes.now r.0 r.1) }
-    ensures taken { IfSome result (λ r. S.bar (S.state sink.now) r.0.head ≡ None) }
+) -> Option<WholeLeaf<'p>>
+    ensures plain { IfSome result (whole.IsPlain (little_in dictionary) bytes.now) }
+    ensures taken { IfSome result (λ leaf. S.bar (S.state sink.now) leaf.head ≡ None) }
 {
-    let (leaf, size) = plain_leaf(dictionary, bytes)?;
+    let leaf = plain_leaf(dictionary, bytes)?;
     match sink.accepts(&leaf.head) {
-        Ok(()) => Some((leaf, size)),
+        Ok(()) => Some(leaf),
         Err(_) => None,
     }
 }
@@ -83,8 +83,8 @@ impl Cursor {
         ensures fed { sinks.FedPiece S.Sink sink.old sink.new self.old self.new run.now result }
     {
         let mut rest = run;
-        while let Some((leaf, head_size)) = accepted_leaf(dictionary, rest, sink) {
-            let size = head_size + leaf.value.len();
+        while let Some(leaf) = accepted_leaf(dictionary, rest, sink) {
+            let size = SHORT_HEAD + leaf.value.len();
             sink.take_whole(leaf.head, leaf.syntax, leaf.value)?;
             self.position += size as u64;
             let (_, after) = rest.split_at(size);

@@ -1,14 +1,13 @@
 // An element whose value is whole in a piece.
-ghost use Rattle.std.specs.Prelude.{◌≤◌, length, IfSome};
+ghost use Rattle.std.specs.Prelude.{IfSome};
 ghost use Rattle.dcm_base.specs.declared.syntax.Syntax.TheVariants.{Little as little_in};
-ghost use Rattle.dcm_head.specs.HeadRead.{BeginsPlain};
 ghost use Rattle.dcm_stream.specs.Judging.{IsSized};
 ghost use Rattle.dcm_stream.specs.WholeLeaf as spec;
 
 use super::judge::Opening;
 use super::sign::says_sign;
 use dcm_base::{Dictionary, Length, Syntax};
-use dcm_head::{Head, LONG_HEAD, SHORT_HEAD, read_long_head, read_short_head};
+use dcm_head::{Head, SHORT_HEAD, read_short_head};
 
 /// An element whose value is whole in a piece.
 #[derive(Clone, Copy)]
@@ -52,42 +51,27 @@ pub fn whole_leaf<'p>(opening: Opening, rest: &'p [u8]) -> Option<WholeLeaf<'p>>
     }
 }
 
-/// The head in explicit little endian that the bytes begin with, where a value follows it, and the number of its bytes.
-/// Nearly all heads have eight.
+/// The element in explicit little endian that the bytes begin with, where its length has two bytes and its value is
+/// whole in them. Nearly all elements are such. PixelRepresentation is left out here too.
 #[inline(always)]
-fn valued_head(dictionary: Dictionary, bytes: &[u8]) -> Option<(Head, usize)>
-    requires { 8 ≤ length bytes.now }
-    ensures { IfSome result (λ r. BeginsPlain (little_in dictionary) bytes.now r.0 r.1) }
-{
-    if let Some(head) = read_short_head(dictionary, bytes) {
-        return Some((head, SHORT_HEAD));
-    }
-    let head = read_long_head(dictionary, bytes)?;
-    Some((head, LONG_HEAD))
-}
-
-/// The element in explicit little endian that the bytes begin with, where its value is whole in them, and the number of
-/// bytes of its head. Nearly all elements are such. PixelRepresentation is left out here too.
-#[inline(always)]
-pub fn plain_leaf(dictionary: Dictionary, bytes: &[u8]) -> Option<(WholeLeaf<'_>, usize)>
-    ensures { IfSome result (λ r. spec.IsPlain (little_in dictionary) bytes.now r.0 r.1) }
+pub fn plain_leaf(dictionary: Dictionary, bytes: &[u8]) -> Option<WholeLeaf<'_>>
+    ensures { IfSome result (spec.IsPlain (little_in dictionary) bytes.now) }
 {
     if bytes.len() < SHORT_HEAD {
         return None;
     }
-    let (head, size) = valued_head(dictionary, bytes)?;
-    let Length::Known(length) = head.length else {
+    let head = read_short_head(dictionary, bytes)?;
+    let Length::Known(size) = head.length else {
         return None;
     };
     if says_sign(head.tag) {
         return None;
     }
-    let (_, rest) = bytes.split_at(size);
-    let value = front(rest, length)?;
-    let leaf = WholeLeaf {
+    let (_, rest) = bytes.split_at(SHORT_HEAD);
+    let value = front(rest, size)?;
+    Some(WholeLeaf {
         head,
         syntax: Syntax::Little(dictionary),
         value,
-    };
-    Some((leaf, size))
+    })
 }
