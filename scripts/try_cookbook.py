@@ -30,6 +30,8 @@ import tempfile
 import time
 from typing import Callable, NamedTuple
 
+from try_texts import is_utf8
+
 ROOT = os.path.dirname(os.path.dirname(os.path.abspath(__file__)))
 PAGE = os.path.join(ROOT, "docs", "users", "COOKBOOK.md")
 
@@ -375,14 +377,6 @@ def wrong_names(run, good, text):
             continue
         wrong += [] if all(reason in line for line in lines_of(run, name, text)) else [f"of {name!r} no line says {reason!r}"]
     return wrong
-
-
-def is_utf8(name):
-    try:
-        name.decode("utf-8")
-    except UnicodeDecodeError:
-        return False
-    return True
 
 
 def becomes(name, file, is_done):
