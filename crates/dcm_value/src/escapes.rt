@@ -8,8 +8,11 @@ ghost use Rattle.std.specs.List.{list_all, list_any};
 use arrayvec::ArrayVec;
 use std::simd::prelude::*;
 
-/// The bytes of a text that are looked at together. Most texts are short, so there are no more.
+/// The bytes of a short text that are looked at together, as most texts are.
 const TEXT_LANES: usize = 8;
+
+/// The bytes of a long text that are looked at together: as many as a mask has bits.
+const WIDE_LANES: usize = 64;
 
 /// The last byte of ASCII that is no control: `~`.
 const LAST_ASCII: u8 = 126;
@@ -31,26 +34,29 @@ fn is_plain(byte: u8) -> bool
     byte >= 32 && byte != 127 && byte != b'%' && byte != b']'
 }
 
-/// Whether a control is among eight bytes.
+/// Whether a control is among some bytes.
 #[inline(always)]
-fn has_control(bytes: u8x8) -> bool
-    ensures { result ≡ list_any (λ b. nat_lt b 32) bytes }
+fn has_control<const LANES: usize>(bytes: Simd<u8, LANES>) -> bool
+    requires { LANES ≤ 64 }
+    ensures { result ≡ list_any (λ b. nat_lt b 32) bytes.entry }
 {
-    bytes.simd_lt(u8x8::splat(32)).to_bitmask() != 0
+    bytes.simd_lt(Simd::splat(32)).to_bitmask() != 0
 }
 
-/// Whether this byte is among eight bytes.
+/// Whether this byte is among some bytes.
 #[inline(always)]
-fn has_byte(bytes: u8x8, byte: u8) -> bool
-    ensures { result ≡ list_any (λ b. b == byte) bytes }
+fn has_byte<const LANES: usize>(bytes: Simd<u8, LANES>, byte: u8) -> bool
+    requires { LANES ≤ 64 }
+    ensures { result ≡ list_any (λ b. b == byte) bytes.entry }
 {
-    bytes.simd_eq(u8x8::splat(byte)).to_bitmask() != 0
+    bytes.simd_eq(Simd::splat(byte)).to_bitmask() != 0
 }
 
-/// Whether one of eight bytes of a text is not shown as it is.
+/// Whether one of some bytes of a text is not shown as it is.
 #[inline(always)]
-fn has_escapes(bytes: u8x8) -> bool
-    ensures { result ≡ not (list_all is_plain_byte bytes) }
+fn has_escapes<const LANES: usize>(bytes: Simd<u8, LANES>) -> bool
+    requires { LANES ≤ 64 }
+    ensures { result ≡ not (list_all is_plain_byte bytes.entry) }
 {
     has_control(bytes) | has_byte(bytes, 127) | has_byte(bytes, b'%') | has_byte(bytes, b']')
 }
@@ -62,9 +68,33 @@ fn is_plain_singly(bytes: &[u8]) -> bool
     bytes.iter().all(|byte| is_plain(*byte))
 }
 
-/// Whether a text is shown as it is. Eight bytes are looked at together. The last eight are so too, some of them for the
-/// second time, since up to seven one by one take longer.
+/// Whether a text is shown as it is. Of a long one 64 bytes are looked at together.
 pub fn is_plain_text(bytes: &[u8]) -> bool
+    ensures { result ≡ list_all is_plain_byte bytes.now }
+{
+    if bytes.len() < WIDE_LANES {
+        return is_plain_short(bytes);
+    }
+    let (blocks, rest) = bytes.split_at(bytes.len() - bytes.len() % WIDE_LANES);
+    are_plain_blocks(blocks) && is_plain_short(rest)
+}
+
+/// The same of whole blocks of 64 bytes.
+fn are_plain_blocks(bytes: &[u8]) -> bool
+    requires { length bytes.now % 64 ≡ 0 }
+    ensures { result ≡ list_all is_plain_byte bytes.now }
+{
+    for block in 0..bytes.len() / WIDE_LANES {
+        if has_escapes(u8x64::from_slice(&bytes[WIDE_LANES * block..])) {
+            return false;
+        }
+    }
+    true
+}
+
+/// The same of a short text. Eight bytes are looked at together. The last eight are so too, some of them for the second
+/// time, since up to seven one by one take longer.
+fn is_plain_short(bytes: &[u8]) -> bool
     ensures { result ≡ list_all is_plain_byte bytes.now }
 {
     if bytes.len() < TEXT_LANES {
@@ -88,18 +118,20 @@ pub fn is_ascii(byte: u8) -> bool
     byte >= 32 && byte <= LAST_ASCII && byte != b'%' && byte != b']'
 }
 
-/// Whether a byte above 7E is among eight bytes.
+/// Whether a byte above 7E is among some bytes.
 #[inline(always)]
-fn has_high(bytes: u8x8) -> bool
-    ensures { result ≡ list_any (λ b. nat_lt 126 b) bytes }
+fn has_high<const LANES: usize>(bytes: Simd<u8, LANES>) -> bool
+    requires { LANES ≤ 64 }
+    ensures { result ≡ list_any (λ b. nat_lt 126 b) bytes.entry }
 {
-    bytes.simd_gt(u8x8::splat(LAST_ASCII)).to_bitmask() != 0
+    bytes.simd_gt(Simd::splat(LAST_ASCII)).to_bitmask() != 0
 }
 
-/// Whether one of eight bytes may not be shown as it is.
+/// Whether one of some bytes may not be shown as it is.
 #[inline(always)]
-fn has_others(bytes: u8x8) -> bool
-    ensures { result ≡ not (list_all is_ascii_byte bytes) }
+fn has_others<const LANES: usize>(bytes: Simd<u8, LANES>) -> bool
+    requires { LANES ≤ 64 }
+    ensures { result ≡ not (list_all is_ascii_byte bytes.entry) }
 {
     has_control(bytes) | has_high(bytes) | has_byte(bytes, b'%') | has_byte(bytes, b']')
 }
@@ -112,8 +144,32 @@ fn is_ascii_singly(bytes: &[u8]) -> bool
 }
 
 /// Whether a text is shown as it is, whatever Specific Character Set is in force: its bytes are 20 to 7E, and no `%` or
-/// `]`. Eight bytes are looked at together, as by `is_plain_text`.
+/// `]`. As many bytes are looked at together as by `is_plain_text`.
 pub fn is_plain_ascii(bytes: &[u8]) -> bool
+    ensures { result ≡ list_all is_ascii_byte bytes.now }
+{
+    if bytes.len() < WIDE_LANES {
+        return is_ascii_short(bytes);
+    }
+    let (blocks, rest) = bytes.split_at(bytes.len() - bytes.len() % WIDE_LANES);
+    are_ascii_blocks(blocks) && is_ascii_short(rest)
+}
+
+/// The same of whole blocks of 64 bytes.
+fn are_ascii_blocks(bytes: &[u8]) -> bool
+    requires { length bytes.now % 64 ≡ 0 }
+    ensures { result ≡ list_all is_ascii_byte bytes.now }
+{
+    for block in 0..bytes.len() / WIDE_LANES {
+        if has_others(u8x64::from_slice(&bytes[WIDE_LANES * block..])) {
+            return false;
+        }
+    }
+    true
+}
+
+/// The same of a short text, as by `is_plain_short`.
+fn is_ascii_short(bytes: &[u8]) -> bool
     ensures { result ≡ list_all is_ascii_byte bytes.now }
 {
     if bytes.len() < TEXT_LANES {
@@ -215,13 +271,14 @@ pub fn append_text<const N: usize>(bytes: &[u8], text: &mut ArrayVec<u8, N>)
     append_singly(last, text);
 }
 
-/// How many backslashes there are in eight bytes.
+/// How many backslashes there are in some bytes.
 #[inline(always)]
-fn backslashes_in(bytes: u8x8) -> u32
-    ensures count { result ≡ count_by (λ b. b == 92) bytes }
-    ensures bound { result ≤ 8 }
+fn backslashes_in<const LANES: usize>(bytes: Simd<u8, LANES>) -> u32
+    requires { LANES ≤ 64 }
+    ensures count { result ≡ count_by (λ b. b == 92) bytes.entry }
+    ensures bound { result ≤ LANES }
 {
-    bytes.simd_eq(u8x8::splat(b'\\')).to_bitmask().count_ones()
+    bytes.simd_eq(Simd::splat(b'\\')).to_bitmask().count_ones()
 }
 
 /// How many backslashes there are, byte by byte.
@@ -242,9 +299,34 @@ fn backslashes_behind(skipped: usize, bytes: u8x8) -> u32
     (bytes.simd_eq(u8x8::splat(b'\\')).to_bitmask() >> skipped).count_ones()
 }
 
-/// How many backslashes there are. Eight bytes are looked at together. The last eight are so too, but for those that
-/// were counted.
+/// How many backslashes there are. Of a long text 64 bytes are looked at together.
 pub fn backslashes(bytes: &[u8]) -> usize
+    ensures count { result ≡ count_by (λ b. b == 92) bytes.now }
+    ensures bound { result ≤ length bytes.now }
+{
+    if bytes.len() < WIDE_LANES {
+        return backslashes_short(bytes);
+    }
+    let (blocks, rest) = bytes.split_at(bytes.len() - bytes.len() % WIDE_LANES);
+    backslashes_of_blocks(blocks) + backslashes_short(rest)
+}
+
+/// The same of whole blocks of 64 bytes.
+fn backslashes_of_blocks(bytes: &[u8]) -> usize
+    requires { length bytes.now % 64 ≡ 0 }
+    ensures count { result ≡ count_by (λ b. b == 92) bytes.now }
+    ensures bound { result ≤ length bytes.now }
+{
+    let mut count = 0;
+    for block in 0..bytes.len() / WIDE_LANES {
+        count += backslashes_in(u8x64::from_slice(&bytes[WIDE_LANES * block..])) as usize;
+    }
+    count
+}
+
+/// The same of a short text. Eight bytes are looked at together. The last eight are so too, but for those that were
+/// counted.
+fn backslashes_short(bytes: &[u8]) -> usize
     ensures count { result ≡ count_by (λ b. b == 92) bytes.now }
     ensures bound { result ≤ length bytes.now }
 {

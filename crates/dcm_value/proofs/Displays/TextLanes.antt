@@ -1,10 +1,11 @@
--- Eight bytes of a text at a time.
+-- Some bytes of a text at a time.
 use Rattle.std.proofs.Common.{◌≡◌, ◌<◌, ℕ, zero, suc, ◌+◌, ◌*◌, ◌/◌, ◌^◌, ◌==◌, ◌&&◌, ◌||◌, not, cond, eqb, eqb-true, ltb, Bool, true, false, List, [], ◌∷◌, ◌++◌, length, take, drop, take-add, map, refl, sym, ap, ◌∙◌, arith, append_assoc}
 use Rattle.std.specs.Prelude.{nat_lt, count_by}
 use Rattle.std.specs.List.{list_all, list_any}
 use Rattle.std.proofs.lemmas.List.{take-append-drop, length-drop}
 use Rattle.std.proofs.lemmas.List.Sums.{sum_by-append}
-use lib.Lanes.{chunk, mask_l}
+use lib.Lanes.{chunk, mask_l, zip2}
+use lib.ListN.{replicate}
 use lib.Count.{ones}
 use Rattle.dcm_value.proofs.Displays.Facts.{take_within}
 use native.Mathlib.Nat.{div-one, zero-div, pow-suc, mul_comm, div-div-eq-div-mul}
@@ -60,9 +61,16 @@ any_not p (x ∷ xs) = go (p x) (any_not p xs)
 abbrev escapes : ℕ → Bool
 escapes b = nat_lt b 32 || b == 127 || b == 37 || b == 93
 
--- the mask of a test of eight bytes
-pub mask_any : (t : ℕ → ℕ → Bool) (v : List ℕ) (n y : ℕ) → length v ≡ 8 → n ≡ mask_l (map (λ x. t x y) v) → is_set n ≡ list_any (λ x. t x y) v
-mask_any t v n y long e = ap is_set e ∙ any_set (λ x. t x y) v
+-- the mask of a test of some bytes
+pub mask_any : (t : ℕ → ℕ → Bool) (v : List ℕ) (n y : ℕ) → n ≡ mask_l (map (λ x. t x y) v) → is_set n ≡ list_any (λ x. t x y) v
+mask_any t v n y e = ap is_set e ∙ any_set (λ x. t x y) v
+
+-- a test of the same byte beside some bytes, the other way round
+pub turned_round : (f : ℕ → ℕ → ℕ) (n y : ℕ) (v : List ℕ) → zip2 f (replicate n y) v ≡ zip2 (λ a b. f b a) v (replicate n y)
+turned_round f zero y [] = refl
+turned_round f zero y (x ∷ xs) = refl
+turned_round f (suc n) y [] = refl
+turned_round f (suc n) y (x ∷ xs) = ap (λ l. f y x ∷ l) (turned_round f n y xs)
 
 pub escapes_any : (v : List ℕ) → (list_any (λ x. ltb x 32) v || list_any (λ x. eqb x 127) v || list_any (λ x. eqb x 37) v || list_any (λ x. eqb x 93) v) ≡ not (list_all is_plain_byte v)
 escapes_any v =
@@ -115,6 +123,10 @@ plain_not p v n m fails =
 
 pub plain_all : (p : ℕ → Bool) (v : List ℕ) (n : ℕ) → list_all p (take n v) ≡ true → list_all p v ≡ list_all p (drop n v)
 plain_all p v n so_far = ap (list_all p) (sym (take-append-drop n v)) ∙ all_append p (take n v) (drop n v) ∙ ap (λ t. t && list_all p (drop n v)) so_far
+
+-- whole blocks and what is behind them
+pub plain_both : (p : ℕ → Bool) (v : List ℕ) (n : ℕ) → (list_all p (take n v) && list_all p (drop n v)) ≡ list_all p v
+plain_both p v n = sym (ap (list_all p) (sym (take-append-drop n v)) ∙ all_append p (take n v) (drop n v))
 
 -- backslashes of eight bytes more, and of the last ones
 pub count_more : (p : ℕ → Bool) (v : List ℕ) (n m : ℕ) → count_by p (take (n + m) v) ≡ count_by p (take n v) + count_by p (chunk n m v)

@@ -3,4 +3,4 @@ use Rattle.dcm_value.proofs.Displays.TextLanes.{others_any, or_alike}
 use Rattle.dcm_value.proofs.escapes.has_others.Goals as goal
 
 pub returns : goal.returns
-returns c = or_alike c.has_control.ensures c.has_high.ensures c.has_byte.ensures c.has_byte-2.ensures ∙ others_any c.args.bytes
+returns g c = or_alike c.has_control.ensures c.has_high.ensures c.has_byte.ensures c.has_byte-2.ensures ∙ others_any c.args.bytes

@@ -1,6 +1,6 @@
 use Rattle.std.proofs.Common.{◌≡◌, ◌≤◌, ◌*◌, ◌==◌, take}
 use Rattle.std.specs.Prelude.{count_by}
-use Rattle.dcm_value.proofs.escapes.backslashes.Given as goal
+use Rattle.dcm_value.proofs.escapes.backslashes_short.Given as goal
 
 -- those among the bytes so far
 abbrev pub invariant-loop-block : goal.invariant-loop-block

@@ -1,7 +1,7 @@
 use Rattle.std.proofs.Common.{◌≡◌, ◌*◌, take, true}
 use Rattle.std.specs.List.{list_all}
 use Rattle.dcm_value.specs.Plain.{is_plain_byte}
-use Rattle.dcm_value.proofs.escapes.is_plain_text.Given as goal
+use Rattle.dcm_value.proofs.escapes.is_plain_short.Given as goal
 
 -- the bytes so far are plain
 abbrev pub invariant-loop-block : goal.invariant-loop-block

@@ -3,7 +3,7 @@ use Rattle.std.specs.List.{list_all}
 use lib.Lanes.{chunk}
 use Rattle.dcm_value.specs.Plain.{is_ascii_byte}
 use Rattle.dcm_value.proofs.Displays.TextLanes.{plain_more, plain_not, plain_all, plain_less, last_lanes, not_twice, none_escaped, some_escaped}
-use Rattle.dcm_value.proofs.escapes.is_plain_ascii.Goals as goal
+use Rattle.dcm_value.proofs.escapes.is_ascii_short.Goals as goal
 
 pub returns-then-has_others : goal.returns-then-has_others
 returns-then-has_others c = sym (plain_not is_ascii_byte c.args.bytes.now (8 * c.loop-block.block) 8 (some_escaped c.has_others.ensures c.if-has_others.true))
