@@ -114,7 +114,7 @@ pub fn append_whole_ascii<const N: usize>(
         && is_plain_ascii(text)
         && append_ascii(text, may_have_name, line)
     {
-        Some(count(vr, text))
+        Some(count(vr, value))
     } else {
         None
     }

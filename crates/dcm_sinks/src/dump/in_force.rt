@@ -67,11 +67,15 @@ pub fn is_character_set(tag: Tag) -> bool
 }
 
 /// Whether a head is that of a leaf that sets what is in force behind it.
+#[inline(always)]
 fn opens_setting(head: Head, syntax: Syntax) -> bool
     ensures { result ≡ spec.head_sets head syntax }
 {
+    if !is_character_set(head.tag) {
+        return false;
+    }
     match form_of(syntax, read_as(syntax, head.tag, head.vr), head.length) {
-        Form::Value => is_character_set(head.tag) && may_set(head.vr),
+        Form::Value => may_set(head.vr),
         Form::Sequence | Form::FragmentList | Form::Nothing => false,
     }
 }
@@ -108,10 +112,11 @@ impl InForce {
     }
 
     /// By what a text is read that begins here.
-    pub fn sets(&self) -> Sets
-        ensures { result ≡ self.now.sets }
+    #[inline(always)]
+    pub fn sets(&self) -> &Sets
+        ensures { result.now ≡ self.now.sets }
     {
-        self.sets
+        &self.sets
     }
 
     /// After an element whose value sets nothing.

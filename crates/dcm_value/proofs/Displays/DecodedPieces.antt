@@ -19,7 +19,7 @@ use Rattle.dcm_value.specs.DecodedDisplay.{bracketed_pieces, decoded_display, de
 use Rattle.dcm_value.specs.DecodedProgress.{sets_for, kind_of, is_named, decoded_identified}
 use Rattle.dcm_value.specs.Plain.{is_ascii_byte}
 use Rattle.dcm_value.specs.WholeAscii.{ascii_shown}
-use Rattle.dcm_value.proofs.Displays.DecodedAsBefore.{text_itself, text_counted}
+use Rattle.dcm_value.proofs.Displays.DecodedAsBefore.{text_itself, text_counted, unpadded_counted}
 use Rattle.dcm_value.proofs.Displays.DecodedShort.{shown_display, shown_count, same_text, same_count, not_cut, fits_in}
 
 -- in brackets they are its display
@@ -68,8 +68,10 @@ module _ (vr : Vr) (sets : Sets) (v : List ℕ) (some : (length v == 0) ≡ fals
       let few : length (decoded_display vr sets v) ≤ 66 = omega (arith, ap length display, fits_in (length (ascii_shown (is_named vr (length v)) t)) short) in
       ap padded (sym (not_cut mode (decoded_display vr sets v) few ∙ display))
 
-  pub ascii_count : cond (is_single vr) 1 (1 + count_by (λ b. b == 92) (unpadded vr v)) ≡ decoded_count vr sets v
-  ascii_count = sym (shown_count vr sets v some ∙ ap (λ (n : ℕ). cond (is_single vr) 1 (1 + n)) (text_counted (sets_for vr sets) (kind_of vr) t plain))
+  pub ascii_count : cond (is_single vr) 1 (1 + count_by (λ b. b == 92) v) ≡ decoded_count vr sets v
+  ascii_count =
+      sym (shown_count vr sets v some
+      ∙ ap (λ (n : ℕ). cond (is_single vr) 1 (1 + n)) (text_counted (sets_for vr sets) (kind_of vr) t plain ∙ unpadded_counted vr v))
 
 -- one without bytes
 pub none_text : (mode : Mode) (vr : Vr) (sets : Sets) (v : List ℕ) → length v ≡ 0 → padded (codes "(no value available)") ≡ decoded_text_of mode vr sets v

@@ -67,11 +67,11 @@ impl TextLines {
     fn opens_text(&self, head: Head, syntax: Syntax) -> bool
         ensures { result ≡ spec.opens_text (state self.now) head.tag head.vr head.length syntax }
     {
-        if self.lines.is_lost {
+        if self.lines.is_lost || !takes_bytes(head.vr) {
             return false;
         }
         match form_of(syntax, read_as(syntax, head.tag, head.vr), head.length) {
-            Form::Value => takes_bytes(head.vr),
+            Form::Value => true,
             Form::Sequence | Form::FragmentList | Form::Nothing => false,
         }
     }
@@ -106,15 +106,15 @@ impl TextLines {
         out: &mut Watched<W>,
         head: Head,
         syntax: Syntax,
-        sets: Sets,
+        sets: &Sets,
     ) -> Result<(), WriteFailed>
-        ensures state { OnOk result (state self.new ≡ spec.text_step sets (state self.old) (opening head syntax)) }
-        ensures wrote { Wrote W.DeviceOut out.old out.new (spec.text_writes sets (state self.old) (opening head syntax))
+        ensures state { OnOk result (state self.new ≡ spec.text_step sets.now (state self.old) (opening head syntax)) }
+        ensures wrote { Wrote W.DeviceOut out.old out.new (spec.text_writes sets.now (state self.old) (opening head syntax))
             result }
     {
         if self.opens_text(head, syntax) {
             let owner = Owner::Element(head.tag, head.vr);
-            return self.begin(out, owner, head.vr, sets, size_of(head.length));
+            return self.begin(out, owner, head.vr, *sets, size_of(head.length));
         }
         self.owner = None;
         self.lines.take(out, Token::Open(head, syntax))
@@ -124,11 +124,11 @@ impl TextLines {
         &mut self,
         out: &mut Watched<W>,
         bytes: &[u8],
-        sets: Sets,
+        sets: &Sets,
     ) -> Result<(), WriteFailed>
         ensures state { OnOk result (state self.new
-            ≡ fold (spec.text_step sets) (state self.old) (map value_byte bytes.now)) }
-        ensures wrote { Wrote W.DeviceOut out.old out.new (shows sets (state self.old) (map value_byte bytes.now))
+            ≡ fold (spec.text_step sets.now) (state self.old) (map value_byte bytes.now)) }
+        ensures wrote { Wrote W.DeviceOut out.old out.new (shows sets.now (state self.old) (map value_byte bytes.now))
             result }
     {
         let Some(owner) = self.owner.take() else {
@@ -140,9 +140,9 @@ impl TextLines {
         Ok(())
     }
 
-    fn close<W: DeviceOut>(&mut self, out: &mut Watched<W>, sets: Sets) -> Result<(), WriteFailed>
-        ensures state { OnOk result (state self.new ≡ spec.text_step sets (state self.old) closes_leaf) }
-        ensures wrote { Wrote W.DeviceOut out.old out.new (spec.text_writes sets (state self.old) closes_leaf) result }
+    fn close<W: DeviceOut>(&mut self, out: &mut Watched<W>, sets: &Sets) -> Result<(), WriteFailed>
+        ensures state { OnOk result (state self.new ≡ spec.text_step sets.now (state self.old) closes_leaf) }
+        ensures wrote { Wrote W.DeviceOut out.old out.new (spec.text_writes sets.now (state self.old) closes_leaf) result }
     {
         let Some(owner) = self.owner.take() else {
             return self.lines.take(out, Token::CloseLeaf);
@@ -172,11 +172,11 @@ impl TextLines {
         &mut self,
         out: &mut Watched<W>,
         token: Token,
-        sets: Sets,
+        sets: &Sets,
     ) -> Result<(), WriteFailed>
-        ensures state { OnOk result (state self.new ≡ fold (spec.text_step sets) (state self.old)
+        ensures state { OnOk result (state self.new ≡ fold (spec.text_step sets.now) (state self.old)
             (atoms_of token.entry)) }
-        ensures wrote { Wrote W.DeviceOut out.old out.new (shows sets (state self.old) (atoms_of token.entry)) result }
+        ensures wrote { Wrote W.DeviceOut out.old out.new (shows sets.now (state self.old) (atoms_of token.entry)) result }
     {
         match token {
             Token::Open(head, syntax) => self.open(out, head, syntax, sets),
@@ -201,12 +201,12 @@ impl TextLines {
         head: Head,
         syntax: Syntax,
         value: &[u8],
-        sets: Sets,
+        sets: &Sets,
     ) -> Result<(), WriteFailed>
         ensures state { OnOk result (state self.new
-            ≡ fold (spec.text_step sets) (state self.old) (whole_atoms head syntax value.now)) }
+            ≡ fold (spec.text_step sets.now) (state self.old) (whole_atoms head syntax value.now)) }
         ensures wrote { Wrote W.DeviceOut out.old out.new
-            (shows sets (state self.old) (whole_atoms head syntax value.now)) result }
+            (shows sets.now (state self.old) (whole_atoms head syntax value.now)) result }
     {
         self.take(out, Token::Open(head, syntax), sets)?;
         if !value.is_empty() {
@@ -224,7 +224,7 @@ impl TextLines {
         head: Head,
         syntax: Syntax,
         value: &[u8],
-        sets: Sets,
+        sets: &Sets,
     ) -> Result<(), WriteFailed>
         requires leaf { IsLeaf head syntax value.now }
         requires text { spec.opens_text (state self.old) head.tag head.vr head.length syntax ≡ true }
@@ -232,11 +232,11 @@ impl TextLines {
             ≡ line_start (length self.old.lines.lengths) head.tag (letters head.vr) }
         requires within { length self.old.lines.line.items ≤ 271 }
         ensures state { OnOk result (state self.new
-            ≡ fold (spec.text_step sets) (state self.old) (whole_atoms head syntax value.now)) }
+            ≡ fold (spec.text_step sets.now) (state self.old) (whole_atoms head syntax value.now)) }
         ensures wrote { Wrote W.DeviceOut out.old out.new
-            (shows sets (state self.old) (whole_atoms head syntax value.now)) result }
+            (shows sets.now (state self.old) (whole_atoms head syntax value.now)) result }
     {
-        let shown = append_decoded(self.lines.mode, head.vr, sets, value, &mut self.lines.line);
+        let shown = append_decoded(self.lines.mode, head.vr, *sets, value, &mut self.lines.line);
         let Some(count) = shown else {
             return self.put_other(out, head, syntax, value, sets);
         };
@@ -251,14 +251,14 @@ impl TextLines {
         head: Head,
         syntax: Syntax,
         value: &[u8],
-        sets: Sets,
+        sets: &Sets,
     ) -> Result<(), WriteFailed>
         requires leaf { IsLeaf head syntax value.now }
         requires text { spec.opens_text (state self.old) head.tag head.vr head.length syntax ≡ true }
         ensures state { OnOk result (state self.new
-            ≡ fold (spec.text_step sets) (state self.old) (whole_atoms head syntax value.now)) }
+            ≡ fold (spec.text_step sets.now) (state self.old) (whole_atoms head syntax value.now)) }
         ensures wrote { Wrote W.DeviceOut out.old out.new
-            (shows sets (state self.old) (whole_atoms head syntax value.now)) result }
+            (shows sets.now (state self.old) (whole_atoms head syntax value.now)) result }
     {
         match self.lines.mode {
             Mode::Short => self.take_in_parts(out, head, syntax, value, sets),
@@ -273,20 +273,20 @@ impl TextLines {
         head: Head,
         syntax: Syntax,
         value: &[u8],
-        sets: Sets,
+        sets: &Sets,
     ) -> Result<(), WriteFailed>
         requires leaf { IsLeaf head syntax value.now }
         requires full { self.old.lines.mode ≡ Full }
         requires text { spec.opens_text (state self.old) head.tag head.vr head.length syntax ≡ true }
         ensures state { OnOk result (state self.new
-            ≡ fold (spec.text_step sets) (state self.old) (whole_atoms head syntax value.now)) }
+            ≡ fold (spec.text_step sets.now) (state self.old) (whole_atoms head syntax value.now)) }
         ensures wrote { Wrote W.DeviceOut out.old out.new
-            (shows sets (state self.old) (whole_atoms head syntax value.now)) result }
+            (shows sets.now (state self.old) (whole_atoms head syntax value.now)) result }
     {
         let lines = &mut self.lines;
         let level = lines.lengths.depth();
         put_line_start(out, &mut lines.line, level, head.tag, head.vr.letters())?;
-        let count = put_decoded(head.vr, sets, value, out)?;
+        let count = put_decoded(head.vr, *sets, value, out)?;
         self.owner = None;
         lines.owner = None;
         lines.line.clear();
@@ -308,13 +308,13 @@ impl TextLines {
         head: Head,
         syntax: Syntax,
         value: &[u8],
-        sets: Sets,
+        sets: &Sets,
     ) -> Result<(), WriteFailed>
         requires { IsLeaf head syntax value.now }
         ensures state { OnOk result (state self.new
-            ≡ fold (spec.text_step sets) (state self.old) (whole_atoms head syntax value.now)) }
+            ≡ fold (spec.text_step sets.now) (state self.old) (whole_atoms head syntax value.now)) }
         ensures wrote { Wrote W.DeviceOut out.old out.new
-            (shows sets (state self.old) (whole_atoms head syntax value.now)) result }
+            (shows sets.now (state self.old) (whole_atoms head syntax value.now)) result }
     {
         if is_as_before(head.vr, value) {
             self.owner = None;
@@ -337,14 +337,14 @@ impl TextLines {
         head: Head,
         syntax: Syntax,
         value: &[u8],
-        sets: Sets,
+        sets: &Sets,
     ) -> Result<(), WriteFailed>
         requires leaf { IsLeaf head syntax value.now }
         requires text { is_decoded head.vr ≡ true }
         ensures state { OnOk result (state self.new
-            ≡ fold (spec.text_step sets) (state self.old) (whole_atoms head syntax value.now)) }
+            ≡ fold (spec.text_step sets.now) (state self.old) (whole_atoms head syntax value.now)) }
         ensures wrote { Wrote W.DeviceOut out.old out.new
-            (shows sets (state self.old) (whole_atoms head syntax value.now)) result }
+            (shows sets.now (state self.old) (whole_atoms head syntax value.now)) result }
     {
         if value.len() > SHORT || self.lines.is_lost {
             return self.take_other(out, head, syntax, value, sets);
@@ -367,13 +367,13 @@ impl TextLines {
         head: Head,
         syntax: Syntax,
         value: &[u8],
-        sets: Sets,
+        sets: &Sets,
     ) -> Result<(), WriteFailed>
         requires { IsLeaf head syntax value.now }
         ensures state { OnOk result (state self.new
-            ≡ fold (spec.text_step sets) (state self.old) (whole_atoms head syntax value.now)) }
+            ≡ fold (spec.text_step sets.now) (state self.old) (whole_atoms head syntax value.now)) }
         ensures wrote { Wrote W.DeviceOut out.old out.new
-            (shows sets (state self.old) (whole_atoms head syntax value.now)) result }
+            (shows sets.now (state self.old) (whole_atoms head syntax value.now)) result }
     {
         if takes_bytes(head.vr) {
             return self.take_text(out, head, syntax, value, sets);

@@ -1,7 +1,7 @@
-use Rattle.std.proofs.Common.{rules, ◌≡◌, ◌==◌, ◌+◌, ◌∙◌, ap, sym, length, cond, count_by, ℕ, Bool, true, false, List, ◌++◌}
+use Rattle.std.proofs.Common.{rules, ◌≡◌, ◌==◌, ◌∙◌, ap, sym, length, cond, ℕ, Bool, true, false, List, ◌++◌}
 use Rattle.std.specs.Prelude.{nat_le}
 use Rattle.std.specs.List.{list_all}
-use Rattle.dcm_base.specs.Dump.ValueText.{is_single, padded, unpadded}
+use Rattle.dcm_base.specs.Dump.ValueText.{padded, unpadded}
 use Rattle.dcm_value.specs.DecodedProgress.{is_named}
 use Rattle.dcm_value.specs.Plain.{is_ascii_byte}
 use Rattle.dcm_value.specs.WholeAscii.{ascii_shown}
@@ -34,7 +34,5 @@ returns-then-append_ascii-clause-items g c =
       text
           ∙ ap (λ (x : List ℕ). line ++ padded x) shown
           ∙ ap (λ (x : List ℕ). line ++ x) (ascii_text vr sets v some plain mode short),
-      c.count.ensures
-          ∙ ap (λ (x : List ℕ). cond (is_single vr) 1 (1 + count_by (λ b. b == 92) x)) c.unpadded-text.ensures
-          ∙ ascii_count vr sets v some plain,
+      c.count.ensures ∙ ascii_count vr sets v some plain,
     )

@@ -11,7 +11,7 @@ returns-then-is_as_before-clause-state g c =
     let a = c.args in
     let before = sym c.is_as_before.ensures ∙ c.if-is_as_before.true in
     then_ok c.take_whole.result c.take_whole.ensures.state
-    (λ e. ap out_of_text e ∙ sym (as_before_step a.sets (state a.self.now) a.head a.syntax a.value.now c.requires before))
+    (λ e. ap out_of_text e ∙ sym (as_before_step a.sets.now (state a.self.now) a.head a.syntax a.value.now c.requires before))
 
 pub returns-then-is_as_before-clause-wrote : goal.returns-then-is_as_before-clause-wrote
 returns-then-is_as_before-clause-wrote g c =
@@ -19,6 +19,6 @@ returns-then-is_as_before-clause-wrote g c =
     let before = sym c.is_as_before.ensures ∙ c.if-is_as_before.true in
     record {
       bytes = subst (λ (bytes : List ℕ). Puts (g.W.DeviceOut.contents a.out.now) (g.W.DeviceOut.contents c.take_whole.new.out) bytes c.take_whole.result)
-          (sym (as_before_shown a.sets (state a.self.now) a.head a.syntax a.value.now c.requires before)) c.take_whole.ensures.wrote.bytes;
+          (sym (as_before_shown a.sets.now (state a.self.now) a.head a.syntax a.value.now c.requires before)) c.take_whole.ensures.wrote.bytes;
       failed = search rules;
     }

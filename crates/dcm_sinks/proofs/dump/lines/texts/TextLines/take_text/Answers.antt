@@ -31,7 +31,7 @@ returns-clause-state g c =
     let a = c.args in
     let text = leaf_text (state a.self.now) a.head a.syntax a.value.now c.requires.leaf c.requires.text c.if-self.false in
     always c.put_line_rest.result _
-    (ap out_of_text c.put_line_rest.ensures.state ∙ sym (whole_leaves a.sets (state a.self.now) a.head a.syntax a.value.now c.requires.leaf text))
+    (ap out_of_text c.put_line_rest.ensures.state ∙ sym (whole_leaves a.sets.now (state a.self.now) a.head a.syntax a.value.now c.requires.leaf text))
 
 pub returns-clause-wrote : goal.returns-clause-wrote
 returns-clause-wrote g c =
@@ -51,8 +51,8 @@ returns-clause-wrote g c =
     ∙ ap (λ (n : ℕ). line_start n a.head.tag c.letters.result) c.depth-level.ensures.depth
     ∙ ap (line_start level a.head.tag) c.letters.ensures
     in
-    let both = shown s.lines.mode a.sets in
-    let all = whole_line a.sets s a.head a.syntax a.value.now c.requires.leaf is_text before line c.in-Some.count start both.0 both.1 in
+    let both = shown s.lines.mode a.sets.now in
+    let all = whole_line a.sets.now s a.head a.syntax a.value.now c.requires.leaf is_text before line c.in-Some.count start both.0 both.1 in
     record {
       bytes = subst (λ (bytes : List ℕ). Puts (g.W.DeviceOut.contents a.out.now) (g.W.DeviceOut.contents c.put_line_rest.new.out) bytes c.put_line_rest.result) all c.put_line_rest.ensures.wrote.bytes;
       failed = search rules;

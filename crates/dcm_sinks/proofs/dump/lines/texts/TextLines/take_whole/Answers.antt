@@ -17,7 +17,7 @@ returns-clause-state g c =
     let before : is_as_before a.head.vr a.value.now ≡ true =
     ap (λ (t : Bool). not t || list_all is_ascii_byte (unpadded a.head.vr a.value.now)) (sym c.takes_bytes.ensures ∙ c.if-takes_bytes.false) in
     then_ok c.take_whole.result c.take_whole.ensures.state
-    (λ e. ap out_of_text e ∙ sym (as_before_step a.sets (state a.self.now) a.head a.syntax a.value.now c.requires before))
+    (λ e. ap out_of_text e ∙ sym (as_before_step a.sets.now (state a.self.now) a.head a.syntax a.value.now c.requires before))
 
 pub returns-clause-wrote : goal.returns-clause-wrote
 returns-clause-wrote g c =
@@ -26,6 +26,6 @@ returns-clause-wrote g c =
     ap (λ (t : Bool). not t || list_all is_ascii_byte (unpadded a.head.vr a.value.now)) (sym c.takes_bytes.ensures ∙ c.if-takes_bytes.false) in
     record {
       bytes = subst (λ (bytes : List ℕ). Puts (g.W.DeviceOut.contents a.out.now) (g.W.DeviceOut.contents c.take_whole.new.out) bytes c.take_whole.result)
-          (sym (as_before_shown a.sets (state a.self.now) a.head a.syntax a.value.now c.requires before)) c.take_whole.ensures.wrote.bytes;
+          (sym (as_before_shown a.sets.now (state a.self.now) a.head a.syntax a.value.now c.requires before)) c.take_whole.ensures.wrote.bytes;
       failed = search rules;
     }
