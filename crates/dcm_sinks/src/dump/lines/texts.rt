@@ -37,8 +37,8 @@ pub struct TextLines {
     ghost same: { ForSome owner (λ _. (decoded_progress text).display.mode ≡ lines.mode) },
 }
 
-/// The most bytes of a text that goes right to its line. Of a longer one it is first asked whether it is plain ASCII, which
-/// goes out faster as before.
+/// The most bytes of a text that goes right to its line. A longer one is first looked at, since plain ASCII goes out faster
+/// as before.
 const SHORT: usize = 64;
 
 /// Whether an element is shown as before, whatever is in force: one that is no text, or of plain ASCII.
@@ -217,7 +217,7 @@ impl TextLines {
 
     /// Writes the line of a text that is whole, of which the line has no more than its start. It is put together and goes
     /// out at once, but in full mode where it is long.
-    #[inline(never)]
+    #[inline(always)]
     fn put_characters<W: DeviceOut>(
         &mut self,
         out: &mut Watched<W>,
@@ -300,9 +300,9 @@ impl TextLines {
         )
     }
 
-    /// Writes what an element makes whose value is whole, where that is shown as before, or the text is long.
+    /// Writes what a text makes that is whole, of any length. Plain ASCII is shown as before.
     #[inline(never)]
-    fn take_other<W: DeviceOut>(
+    fn take_long_text<W: DeviceOut>(
         &mut self,
         out: &mut Watched<W>,
         head: Head,
@@ -328,10 +328,10 @@ impl TextLines {
         self.take_in_parts(out, head, syntax, value, sets)
     }
 
-    /// Writes what a text makes that is whole. Plain ASCII that is short is appended right to the line, so that it is looked
-    /// at once; only behind it the sets are asked.
+    /// Writes what a text makes that is whole. Plain ASCII of at most 64 bytes is appended right to the line, so that it is
+    /// looked at once; only behind it the sets are asked.
     #[inline(never)]
-    fn take_text<W: DeviceOut>(
+    fn take_short_text<W: DeviceOut>(
         &mut self,
         out: &mut Watched<W>,
         head: Head,
@@ -346,8 +346,8 @@ impl TextLines {
         ensures wrote { Wrote W.DeviceOut out.old out.new
             (shows sets.now (state self.old) (whole_atoms head syntax value.now)) result }
     {
-        if value.len() > SHORT || self.lines.is_lost {
-            return self.take_other(out, head, syntax, value, sets);
+        if self.lines.is_lost {
+            return self.take_in_parts(out, head, syntax, value, sets);
         }
         let level = self.lines.lengths.depth();
         begin_line(&mut self.lines.line, level, head.tag, head.vr.letters());
@@ -375,10 +375,14 @@ impl TextLines {
         ensures wrote { Wrote W.DeviceOut out.old out.new
             (shows sets.now (state self.old) (whole_atoms head syntax value.now)) result }
     {
-        if takes_bytes(head.vr) {
-            return self.take_text(out, head, syntax, value, sets);
+        if !takes_bytes(head.vr) {
+            self.owner = None;
+            return self.lines.take_whole(out, head, syntax, value);
         }
-        self.owner = None;
-        self.lines.take_whole(out, head, syntax, value)
+        if value.len() <= SHORT {
+            self.take_short_text(out, head, syntax, value, sets)
+        } else {
+            self.take_long_text(out, head, syntax, value, sets)
+        }
     }
 }

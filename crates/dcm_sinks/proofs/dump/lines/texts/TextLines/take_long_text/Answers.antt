@@ -4,7 +4,7 @@ use Rattle.dcm_sinks.specs.TextLines.{state}
 use Rattle.dcm_sinks.proofs.DecodedDumps.TextBytes.{out_of_text}
 use Rattle.dcm_sinks.proofs.DecodedDumps.TextLines.{then_ok}
 use Rattle.dcm_sinks.proofs.DecodedDumps.TextRuns.{as_before_step, as_before_shown}
-use Rattle.dcm_sinks.proofs.dump.lines.texts.TextLines.take_other.Goals as goal
+use Rattle.dcm_sinks.proofs.dump.lines.texts.TextLines.take_long_text.Goals as goal
 
 pub returns-then-is_as_before-clause-state : goal.returns-then-is_as_before-clause-state
 returns-then-is_as_before-clause-state g c =

@@ -10,7 +10,7 @@ use Rattle.dcm_sinks.specs.TextLines.{state}
 use Rattle.dcm_sinks.proofs.DecodedDumps.TextBytes.{out_of_text}
 use Rattle.dcm_sinks.proofs.DecodedDumps.TextLines.{always}
 use Rattle.dcm_sinks.proofs.DecodedDumps.TextRuns.{whole_leaves, whole_line, leaf_text}
-use Rattle.dcm_sinks.proofs.dump.lines.texts.TextLines.take_text.Goals as goal
+use Rattle.dcm_sinks.proofs.dump.lines.texts.TextLines.take_short_text.Goals as goal
 
 pub put_characters-requires-clause-text : goal.put_characters-requires-clause-text
 put_characters-requires-clause-text g c =
