@@ -1,7 +1,9 @@
 -- What a value of Specific Character Set (0008,0005) names (PS3.3 C.12.1.1.2).
-use Rattle.std.specs.Prelude.{ℕ, Bool, true, false, ◌||◌, ◌==◌, nat_lt, List, [], ◌∷◌, map, find, fold, length, bytes_eq}
+use Rattle.std.specs.Prelude.{ℕ, ◌^◌, Bool, true, false, ◌||◌, ◌==◌, nat_lt, List, [], ◌∷◌, map, find, fold, length, bytes_eq}
 use Rattle.std.specs.Prelude.{Option, option_map, unwrap_or, if◌then◌else◌}
-use Rattle.std.specs.List.{slice_split, slice_set, slice_index_or}
+use Rattle.std.specs.List.{slice_split}
+use Rattle.std.specs.Int.{bit_at}
+use Rattle.std.specs.Int.Bits.{bit_or}
 use Rattle.dcm_text.specs.declared.characters.Single.TheVariants.{Ir13, Ir100, Ir101, Ir109, Ir110, Ir126, Ir127, Ir138, Ir144, Ir148, Ir166, Ir203}
 use Rattle.dcm_text.specs.declared.set.Set.{Set}
 use Rattle.dcm_text.specs.declared.set.Set.TheVariants as set
@@ -42,9 +44,13 @@ place set.Ascii = 16
 place set.Gb18030 = 16
 place set.Utf8 = 16
 
+-- whether the flag of a set is among flags, which are the bits of a number
+abbrev pub has_flag : (flags : ℕ) → Set → Bool
+has_flag flags s = bit_at flags (place s) == 1
+
 -- whether a set was named, so that it may be designated; ASCII always may
 abbrev pub has : Sets → Set → Bool
-has sets s = slice_index_or sets.named (place s) false
+has sets s = has_flag sets.named s
 
 -- ---- one term
 
@@ -84,8 +90,8 @@ start_of set.Ir159 = right.Nothing
 start_of set.Gb18030 = right.Gb18030
 start_of set.Utf8 = right.Utf8
 
-abbrev pub with_flag : List Bool → Set → List Bool
-with_flag flags s = slice_set flags (place s) true
+abbrev pub with_flag : (flags : ℕ) → Set → ℕ
+with_flag flags s = bit_or flags (2 ^ place s)
 
 -- ---- the terms of a value
 

@@ -1,12 +1,13 @@
 //! Laws of the definitions. Each function takes nothing and makes no call: its contract is the law.
-ghost use Rattle.std.specs.Prelude.{◌≡◌, ◌++◌, ℕ, Bool, Some, true, false, List, map, flat_map, codes, encode_utf8_all, IsUtf8};
+ghost use Rattle.std.specs.Prelude.{◌≡◌, ◌++◌, ◌==◌, ◌||◌, ℕ, Bool, Some, true, false, List, map, flat_map, codes, encode_utf8_all, IsUtf8};
 ghost use Rattle.std.specs.List.{concat, list_all};
 ghost use Rattle.std.specs.Str.{all_scalars};
 ghost use Rattle.dcm_text.specs.Characters.{single_character};
 ghost use Rattle.dcm_text.specs.declared.characters.Single.{Single};
 ghost use Rattle.dcm_text.specs.declared.set.TextKind.{TextKind};
 ghost use Rattle.dcm_text.specs.declared.sets.Sets.{Sets};
-ghost use Rattle.dcm_text.specs.Sets.{sets_of};
+ghost use Rattle.dcm_text.specs.Sets.{sets_of, place, has_flag, with_flag};
+ghost use Rattle.dcm_text.specs.declared.set.Set.{Set};
 ghost use Rattle.dcm_text.specs.Decoding.{decoded};
 ghost use Rattle.dcm_text.specs.Laws.{IsUtf8InForce, is_plain, as_itself, ascii_dumped, encoded, is_byte};
 ghost use Rattle.dcm_text.specs.Runs.{State, begun, joined, run, run_pieces};
@@ -44,6 +45,12 @@ pub fn utf8_as_it_is()
         → list_all is_dumped text ≡ true → dumped sets kind (encode_utf8_all text) ≡ encode_utf8_all text }
     ensures cell { (sets : Sets) (kind : TextKind) (text : List ℕ) → IsUtf8InForce sets → all_scalars text ≡ true
         → cell sets kind (encode_utf8_all text) ≡ encode_utf8_all text }
+{}
+
+/// One more set is named, and what was named stays so.
+pub fn each_set_is_kept()
+    ensures { (flags : ℕ) (named other : Set) → has_flag (with_flag flags named) other
+        ≡ ((place named == place other) || has_flag flags other) }
 {}
 
 /// In a set of one byte a character no two bytes are the same character.

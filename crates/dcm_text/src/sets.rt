@@ -1,5 +1,5 @@
 //! What a value of Specific Character Set (0008,0005) names (PS3.3 C.12.1.1.2).
-ghost use Rattle.std.specs.Prelude.{◌≡◌, map, option_map, position, true, length, ◌==◌, fold};
+ghost use Rattle.std.specs.Prelude.{◌≡◌, ◌≤◌, map, option_map, position, true, length, ◌==◌, fold};
 ghost use Rattle.std.specs.List.{slice_split};
 ghost use Rattle.dcm_text.specs.Sets as spec;
 
@@ -51,14 +51,8 @@ pub const TERMS: [Term; 34] = [
 /// A longer value names what the empty one does.
 const LONGEST: usize = 512;
 
-/// How many flags of sets there are.
-const FLAGS: usize = 17;
-
 /// The flags of no set but ASCII, whose flag is the last.
-pub const ASCII_ALONE: [bool; FLAGS] = [
-    false, false, false, false, false, false, false, false, false, false, false, false, false,
-    false, false, false, true,
-];
+pub const ASCII_ALONE: u32 = 1 << 16;
 
 /// What is in force: what a text begins with, and what may be designated within it.
 #[derive(Clone, Copy, Debug, PartialEq, Eq)]
@@ -67,13 +61,14 @@ pub struct Sets {
     start: Right,
     /// Whether code extensions are in use.
     extended: bool,
-    /// Which sets were named, by their places.
-    named: [bool; FLAGS],
+    /// Which sets were named: a bit for each, by its place. So all of this has eight bytes, and goes in a register.
+    named: u32,
 }
 
 /// The place of the flag of a set.
-fn place(set: Set) -> usize
-    ensures { result ≡ spec.place set }
+fn place(set: Set) -> u32
+    ensures place { result ≡ spec.place set }
+    ensures few { result ≤ 16 }
 {
     match set {
         Set::Single(Single::Ir13) => 0,
@@ -122,7 +117,7 @@ impl Sets {
     pub(crate) fn has(&self, set: Set) -> bool
         ensures { result ≡ spec.has self.now set }
     {
-        self.named[place(set)]
+        (self.named >> place(set)) & 1 == 1
     }
 }
 
@@ -209,11 +204,10 @@ fn start_of(set: Set) -> Right
 }
 
 /// The flags with that of one more set.
-fn with_flag(mut named: [bool; FLAGS], set: Set) -> [bool; FLAGS]
+fn with_flag(named: u32, set: Set) -> u32
     ensures { result ≡ spec.with_flag named set }
 {
-    named[place(set)] = true;
-    named
+    named | (1 << place(set))
 }
 
 /// What the first term names, where no other follows.

@@ -20,3 +20,4 @@ pub mod DecodedDisplay
 pub mod DecodedLaws
 pub mod NextPiece
 pub mod NextShown
+pub mod WholeAscii

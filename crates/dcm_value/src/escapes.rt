@@ -1,5 +1,5 @@
 // The bytes of a text as a dump shows them.
-ghost use Rattle.std.specs.Prelude.{◌≡◌, ◌<◌, ◌≤◌, ◌+◌, ◌*◌, ◌++◌, ◌/◌, ◌%◌, ◌==◌, ◌&&◌, if◌then◌else◌, [], ◌∷◌, length, drop, not, nat_lt};
+ghost use Rattle.std.specs.Prelude.{◌≡◌, ◌<◌, ◌≤◌, ◌+◌, ◌*◌, ◌++◌, ◌/◌, ◌%◌, ◌==◌, ◌&&◌, if◌then◌else◌, [], ◌∷◌, length, take, drop, not, nat_lt, true};
 ghost use Rattle.std.specs.Prelude.{count_by, position};
 ghost use Rattle.dcm_base.specs.Dump.ValueText as spec;
 ghost use Rattle.dcm_value.specs.Plain.{is_plain_byte, is_ascii_byte, ascii_size};
@@ -192,8 +192,8 @@ fn other_byte(bytes: &[u8]) -> Option<usize>
     bytes.iter().position(|byte| !is_ascii(*byte))
 }
 
-/// How many bytes in front are shown as they are, whatever Specific Character Set is in force.
-pub fn ascii_front(bytes: &[u8]) -> usize
+/// The same as `ascii_front`, byte by byte.
+fn ascii_front_singly(bytes: &[u8]) -> usize
     ensures value { result ≡ ascii_size bytes.now }
     ensures most { result ≤ length bytes.now }
 {
@@ -201,6 +201,31 @@ pub fn ascii_front(bytes: &[u8]) -> usize
         Some(at) => at,
         None => bytes.len(),
     }
+}
+
+/// How many blocks of eight bytes in front are shown as they are, whatever Specific Character Set is in force.
+fn ascii_blocks(bytes: &[u8]) -> usize
+    ensures within { TEXT_LANES * result ≤ length bytes.now }
+    ensures plain { list_all is_ascii_byte (take (TEXT_LANES * result) bytes.now) ≡ true }
+{
+    let blocks = bytes.len() / TEXT_LANES;
+    for block in 0..blocks {
+        if has_others(u8x8::from_slice(&bytes[TEXT_LANES * block..])) {
+            return block;
+        }
+    }
+    blocks
+}
+
+/// How many bytes in front are shown as they are, whatever Specific Character Set is in force. Eight bytes are looked at
+/// together, up to those among which another one is.
+pub fn ascii_front(bytes: &[u8]) -> usize
+    ensures value { result ≡ ascii_size bytes.now }
+    ensures most { result ≤ length bytes.now }
+{
+    let front = TEXT_LANES * ascii_blocks(bytes);
+    let (_, rest) = bytes.split_at(front);
+    front + ascii_front_singly(rest)
 }
 
 /// A byte of a text as a dump shows it: a control, `%` and `]` by `%` and two digits in upper case, and each other byte

@@ -8,7 +8,7 @@
 //!   and `put_decoded` writes it right out in full mode, where it does not.
 //! - `is_plain_value` tells whether a value is its bytes by each of these sets, so that `ValueText` shows the same.
 //! - `append_whole` appends to a line what a dump shows of a whole value, without a state, where that is known at once,
-//!   and `append_few` does so for few numbers.
+//!   and `append_few` does so for few numbers. `append_whole_ascii` does so for what is shown alike by each of these sets.
 //! - `read_value` reads such a text back into the bytes of the value, in little endian; `read_value_into` does so in a
 //!   buffer.
 //! - `escape` and `unescape` are one byte of a text, `tag_of_text` a tag, `swap` turns the units of a big endian value.
@@ -55,6 +55,6 @@ pub use unit_buffer::{UnitBuffer, Units};
 pub use units::{LONGEST, digits as byte_digits, shown_unit, unit_text};
 pub use value_text::ValueText;
 pub use way::takes_bytes;
-pub use whole::append_whole;
+pub use whole::{append_whole, append_whole_ascii};
 pub use whole_decoded::append_decoded;
 pub use whole_put::put_decoded;

@@ -4,12 +4,14 @@ ghost use Rattle.std.specs.Prelude.{IfSome, MatchOption, is_some, nat_le};
 ghost use Rattle.dcm_base.specs.declared.mode.Mode.{Mode as AnyMode};
 ghost use Rattle.dcm_base.specs.Dump.ValueText.{shape, padded, bracketed, identified, is_single as is_one};
 ghost use Rattle.dcm_base.specs.Dump.ValueText.{unpadded as kept};
-ghost use Rattle.std.specs.List.{list_all};
-ghost use Rattle.dcm_value.specs.Plain.{is_ascii_byte};
+ghost use Rattle.dcm_text.specs.declared.sets.Sets.{Sets as AnySets};
+ghost use Rattle.dcm_value.specs.DecodedDisplay as decoded;
+ghost use Rattle.dcm_value.specs.WholeAscii.{ascii_shown, is_known_ascii};
 ghost use Rattle.dcm_value.specs.Way as ways;
 ghost use Rattle.dcm_value.specs.Progress.{end_writes, multiplicity};
 ghost use Rattle.dcm_value.specs.Whole as spec;
 
+use crate::decoded_text::may_have_name;
 use crate::display::append_spaces;
 use crate::escapes::{backslashes, is_plain_ascii, is_plain_text};
 use crate::way::{Way, is_single, unpadded, way_of};
@@ -87,21 +89,57 @@ fn append_plain<const N: usize>(text: &[u8], line: &mut ArrayVec<u8, N>) -> bool
     is_plain
 }
 
-/// Appends a text of at most 64 bytes in brackets, with spaces, if it is shown as it is whatever Specific Character Set is
-/// in force. The answer is how many values it has.
-pub fn append_ascii<const N: usize>(vr: Vr, text: &[u8], line: &mut ArrayVec<u8, N>) -> Option<u64>
+/// Appends what a dump shows of a whole value whatever Specific Character Set is in force, with the spaces up to 40
+/// bytes, where that is known at once: of a value without bytes, and of plain ASCII of at most 64 bytes, by its name or as
+/// it is. The answer is how many values there are; or nothing, and then nothing is appended. The bytes are looked at once.
+pub fn append_whole_ascii<const N: usize>(
+    vr: Vr,
+    value: &[u8],
+    line: &mut ArrayVec<u8, N>,
+) -> Option<u64>
     requires room { length line.old.items + 66 ≤ N }
-    ensures items { MatchOption result (line.new.items ≡ line.old.items)
-        (λ n. (line.new.items ≡ line.old.items ++ padded (codes "[" ++ text.now ++ codes "]"))
-        × (n ≡ (if is_one vr then 1 else 1 + count_by (λ b. b == 92) text.now))) }
+    ensures items { MatchOption result (line.new.items ≡ line.old.items) (λ n. (mode : AnyMode) (sets : AnySets)
+        → (line.new.items ≡ line.old.items ++ decoded.decoded_text_of mode vr sets value.now)
+        × (n ≡ decoded.decoded_count vr sets value.now)) }
     ensures within { length line.new.items ≤ length line.old.items + 66 }
-    ensures known { is_some result ≡ (nat_le (length text.now) LONGEST_TEXT && list_all is_ascii_byte text.now) }
+    ensures known { is_some result ≡ is_known_ascii vr value.now }
 {
-    if text.len() <= LONGEST_TEXT && is_plain_ascii(text) {
-        append_bracketed(text, line);
-        Some(count(vr, text))
+    if value.is_empty() {
+        append_no_value(line);
+        return Some(0);
+    }
+    let text = unpadded(vr, value);
+    let may_have_name = may_have_name(vr, value.len());
+    if value.len() <= LONGEST_TEXT
+        && is_plain_ascii(text)
+        && append_ascii(text, may_have_name, line)
+    {
+        Some(count(vr, value))
     } else {
         None
+    }
+}
+
+/// Appends plain ASCII by its name, if it may have one, or in brackets, with spaces. A name that is long is left out.
+fn append_ascii<const N: usize>(
+    text: &[u8],
+    may_have_name: bool,
+    line: &mut ArrayVec<u8, N>,
+) -> bool
+    requires few { length text.now ≤ LONGEST_TEXT }
+    requires room { length line.old.items + 66 ≤ N }
+    ensures known { result ≡ nat_le (length (ascii_shown may_have_name text.now)) 66 }
+    ensures items { line.new.items ≡ (if result then line.old.items ++ padded (ascii_shown may_have_name text.now)
+        else line.old.items) }
+    ensures within { length line.new.items ≤ length line.old.items + 66 }
+{
+    let name = if may_have_name { uid_name(text) } else { None };
+    match name {
+        Some(name) => append_short_name(name.as_bytes(), line),
+        None => {
+            append_bracketed(text, line);
+            true
+        }
     }
 }
 
@@ -116,11 +154,7 @@ fn append_identified<const N: usize>(uid: &[u8], line: &mut ArrayVec<u8, N>) -> 
     let Some(name) = uid_name(uid) else {
         return append_plain(uid, line);
     };
-    let is_short = name.len() <= LONGEST_NAME;
-    if is_short {
-        append_name(name.as_bytes(), line);
-    }
-    is_short
+    append_short_name(name.as_bytes(), line)
 }
 
 /// How many values a text has, one for each backslash and one more.
@@ -145,6 +179,21 @@ fn append_bracketed<const N: usize>(text: &[u8], line: &mut ArrayVec<u8, N>)
     let _ = line.try_extend_from_slice(text);
     line.push(b']');
     append_spaces(text.len() + 2, line);
+}
+
+/// Appends the name of a unique identifier, with spaces, if it is not long.
+fn append_short_name<const N: usize>(name: &[u8], line: &mut ArrayVec<u8, N>) -> bool
+    requires room { length line.old.items + 66 ≤ N }
+    ensures known { result ≡ nat_le (length name.now) LONGEST_NAME }
+    ensures items { line.new.items ≡ (if result then line.old.items ++ padded (codes "=" ++ name.now)
+        else line.old.items) }
+    ensures within { length line.new.items ≤ length line.old.items + 66 }
+{
+    let is_short = name.len() <= LONGEST_NAME;
+    if is_short {
+        append_name(name, line);
+    }
+    is_short
 }
 
 /// Appends the name of a unique identifier behind its mark, and spaces.

@@ -14,7 +14,7 @@ use crate::display::append_spaces;
 use crate::next_piece::next_of;
 use crate::units::{append, append_many};
 use crate::way::{is_single, unpadded};
-use crate::whole::{append_ascii, append_no_value};
+use crate::whole::append_no_value;
 use arrayvec::ArrayVec;
 use dcm_base::{Mode, Vr};
 use dcm_text::{Sets, TextPieces};
@@ -56,9 +56,6 @@ pub fn append_decoded<const N: usize>(
         return Some(0);
     }
     let text = unpadded(vr, value);
-    if let Some(count) = append_ascii(vr, text, line) {
-        return Some(count);
-    }
     let mut pieces = TextPieces::new(read_by(vr, sets), kind_of(vr), text);
     append_text(mode, vr, &mut pieces, line)
 }

@@ -255,6 +255,25 @@ module _ (sets : Sets) (s : TextState) (head : Head) (syntax : Syntax) (v : List
       ∙ sym (ap (λ (l : Length). start ++ (decoded_text_of mode vr sets v ++ line_rest d head.tag l (decoded_count vr sets v))) leaf.length_is)
       ∙ sym (append_assoc start (decoded_text_of mode vr sets v) (line_rest d head.tag head.length (decoded_count vr sets v)))
 
+  -- the line that is put together
+  pub whole_line : (before line : List ℕ) (n : ℕ) → before ≡ line_start (length s.lines.lengths) head.tag (letters head.vr)
+      → line ≡ before ++ decoded_text_of s.lines.mode head.vr sets v → n ≡ decoded_count head.vr sets v
+      → line ++ line_rest s.lines.dictionary head.tag head.length n ≡ text_dumps sets s (whole_atoms head syntax v)
+  whole_line before line n start shown many =
+      let d = s.lines.dictionary in
+      let text : List ℕ = decoded_text_of s.lines.mode head.vr sets v in
+      ap (λ (z : List ℕ). z ++ line_rest d head.tag head.length n) (shown ∙ ap (λ (z : List ℕ). z ++ text) start)
+      ∙ ap (λ (k : ℕ). (line_start (length s.lines.lengths) head.tag (letters head.vr) ++ text) ++ line_rest d head.tag head.length k) many
+      ∙ sym whole_shown
+
+-- a leaf of a text opens one
+pub leaf_text : (s : TextState) (head : Head) (syntax : Syntax) (v : List ℕ) → IsLeaf head syntax v → is_decoded head.vr ≡ true
+    → s.lines.is_lost ≡ false → opens_text s head.tag head.vr head.length syntax ≡ true
+leaf_text s head syntax v leaf text live =
+    ap (λ (t : Bool). is_text t (form syntax (read_as syntax head.tag head.vr) head.length) head.vr) live
+    ∙ ap (λ (f : Form). is_text false f head.vr) leaf.form_is
+    ∙ text
+
 -- ---- one that is shown as before
 
 lives : (lost : Bool) (f : Form) (vr : Vr) → is_text lost f vr ≡ true → lost ≡ false

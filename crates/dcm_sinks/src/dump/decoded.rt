@@ -58,16 +58,17 @@ impl<'w, W: DeviceOut> Sink for DecodedDumpSink<'w, W> {
 
     #[inline(always)]
     fn take(&mut self, token: Token) -> Result<(), WriteFailed> {
-        let sets = self.in_force.sets();
+        let written = self.lines.take(self.out, token, self.in_force.sets());
         self.in_force.take(token);
-        self.lines.take(self.out, token, sets)
+        written
     }
 
     #[inline(always)]
     fn take_whole(&mut self, head: Head, syntax: Syntax, value: &[u8]) -> Result<(), WriteFailed> {
         let sets = self.in_force.sets();
+        let written = self.lines.take_whole(self.out, head, syntax, value, sets);
         self.in_force.take_whole(head, syntax, value);
-        self.lines.take_whole(self.out, head, syntax, value, sets)
+        written
     }
 
     fn accepts(&self, _head: &Head) -> Result<(), Bar> {

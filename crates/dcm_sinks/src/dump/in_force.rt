@@ -67,6 +67,7 @@ pub fn is_character_set(tag: Tag) -> bool
 }
 
 /// Whether a head is that of a leaf that sets what is in force behind it.
+#[inline(never)]
 fn opens_setting(head: Head, syntax: Syntax) -> bool
     ensures { result ≡ spec.head_sets head syntax }
 {
@@ -108,10 +109,11 @@ impl InForce {
     }
 
     /// By what a text is read that begins here.
-    pub fn sets(&self) -> Sets
-        ensures { result ≡ self.now.sets }
+    #[inline(always)]
+    pub fn sets(&self) -> &Sets
+        ensures { result.now ≡ self.now.sets }
     {
-        self.sets
+        &self.sets
     }
 
     /// After an element whose value sets nothing.
@@ -127,7 +129,7 @@ impl InForce {
     fn open(&mut self, head: Head, syntax: Syntax)
         ensures { self.new ≡ spec.force_step self.old (opening head syntax) }
     {
-        self.is_open = opens_setting(head, syntax);
+        self.is_open = is_character_set(head.tag) && opens_setting(head, syntax);
         if self.is_open {
             self.value.clear();
         }
@@ -187,15 +189,24 @@ impl InForce {
             Token::CloseSeq | Token::OpenFragment(_) | Token::End => (),
         }
     }
+
+    /// After an element whose value is whole, and may set what is in force.
+    #[inline(never)]
+    fn take_setting(&mut self, head: Head, syntax: Syntax, value: &[u8])
+        ensures { self.new ≡ fold spec.force_step self.old (whole_atoms head syntax value.now) }
+    {
+        self.open(head, syntax);
+        self.add(value);
+        self.close();
+    }
+
     /// After an element whose value is whole, as by `take` for its head, its bytes and its end.
     #[inline(always)]
     pub fn take_whole(&mut self, head: Head, syntax: Syntax, value: &[u8])
         ensures { self.new ≡ fold spec.force_step self.old (whole_atoms head syntax value.now) }
     {
         if is_character_set(head.tag) {
-            self.open(head, syntax);
-            self.add(value);
-            self.close();
+            self.take_setting(head, syntax, value);
         } else {
             self.pass();
         }

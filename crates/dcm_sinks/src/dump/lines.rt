@@ -1,5 +1,5 @@
 // The lines of a dump, as tokens come.
-ghost use Rattle.std.specs.Prelude.{◌≡◌, ◌<◌, ◌≤◌, OnOk, false, length, map, fold};
+ghost use Rattle.std.specs.Prelude.{◌≡◌, ◌<◌, ◌≤◌, ◌++◌, OnOk, false, length, map, fold};
 ghost use Rattle.std.specs.Option.{ForSome};
 ghost use Rattle.dcm_base.specs.Steps.Atoms.{value_byte, closes_leaf, opens_item, closes_item, closes_sequence};
 ghost use Rattle.dcm_base.specs.Steps.Atoms.{opens_fragment};
@@ -9,6 +9,7 @@ ghost use Rattle.dcm_stream.specs.Tokens.{atoms_of};
 ghost use Rattle.dcm_base.specs.Dump.Dump as dump;
 ghost use Rattle.dcm_sinks.specs.DumpSink as spec;
 ghost use Rattle.dcm_sinks.specs.Encoder.{opening};
+ghost use Rattle.dcm_sinks.specs.Layout.{line_rest};
 ghost use Rattle.dcm_value.specs.Progress as progress;
 ghost use Rattle.dcm_value.specs.ValueText.{progress as text_progress};
 
@@ -257,6 +258,30 @@ impl Lines {
             &mut self.line,
             owner.tag(),
             length,
+            count,
+        )
+    }
+
+    /// Writes the line of an element that is put together up to the end of its display, and what comes after that.
+    #[inline(always)]
+    fn put_line_rest<W: DeviceOut>(
+        &mut self,
+        out: &mut Watched<W>,
+        head: Head,
+        count: u64,
+    ) -> Result<(), WriteFailed>
+        requires { length self.old.line.items ≤ 337 }
+        ensures state { state self.new ≡ spec.live_step (state self.old) closes_leaf }
+        ensures wrote { Wrote W.DeviceOut out.old out.new
+            (self.old.line.items ++ line_rest self.old.dictionary head.tag head.length count) result }
+    {
+        self.owner = None;
+        put_rest(
+            out,
+            self.dictionary,
+            &mut self.line,
+            head.tag,
+            head.length,
             count,
         )
     }

@@ -1,5 +1,5 @@
 -- Runs over ASCII that is shown as it is, where a text goes on as it began.
-use Rattle.std.proofs.Common.{◌≡◌, ◌≤◌, ℕ, suc, ◌+◌, ◌==◌, ◌&&◌, Bool, true, false, cond, List, [], ◌∷◌, ◌++◌, length, take, drop, map, Option, Some, None, refl, sym, ap, subst, ◌∙◌, arith}
+use Rattle.std.proofs.Common.{◌≡◌, ◌≤◌, ℕ, zero, suc, ◌+◌, ◌==◌, ◌&&◌, Bool, true, false, cond, List, [], ◌∷◌, ◌++◌, length, take, drop, map, Option, Some, None, refl, sym, ap, subst, ◌∙◌, arith}
 use Rattle.std.specs.Prelude.{not, nat_lt, count_by, flat_map}
 use Rattle.std.specs.List.{list_all, position}
 use Rattle.std.proofs.lemmas.Bool.{and_parts}
@@ -36,6 +36,17 @@ ascii_front (b ∷ bs) = go (is_ascii_byte b) refl (ascii_front bs)
         ap (λ n. list_all is_ascii_byte (take n (b ∷ bs))) more
         ∙ ap (λ t. t && list_all is_ascii_byte (take (ascii_size bs) bs)) e ∙ rest
     go false e rest = refl
+
+-- behind some of them
+pub size_behind : (v : List ℕ) (n : ℕ) → n ≤ length v → list_all is_ascii_byte (take n v) ≡ true → n + ascii_size (drop n v) ≡ ascii_size v
+size_behind [] zero l e = omega arith
+size_behind [] (suc n) l e = absurd (omega (arith, l))
+size_behind (b ∷ bs) zero l e = omega arith
+size_behind (b ∷ bs) (suc n) l e =
+    let both = and_parts (is_ascii_byte b) (list_all is_ascii_byte (take n bs)) e in
+    let rest : n + ascii_size (drop n bs) ≡ ascii_size bs = size_behind bs n (omega (arith, l)) both.1 in
+    let more : suc n + ascii_size (drop n bs) ≡ 1 + ascii_size bs = omega (arith, rest) in
+    more ∙ sym (ap (λ (t : Bool). cond (not (not t)) (1 + ascii_size bs) 0) both.0)
 
 -- ---- runs
 

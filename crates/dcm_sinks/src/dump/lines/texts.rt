@@ -1,11 +1,13 @@
 // The lines of a dump whose texts are shown by characters.
-ghost use Rattle.std.specs.Prelude.{◌≡◌, ◌&&◌, nat_le, true, OnOk, false, map, fold};
+ghost use Rattle.std.specs.Prelude.{◌≡◌, ◌≤◌, true, OnOk, false, length, map, fold};
 ghost use Rattle.std.specs.Option.{ForSome};
-ghost use Rattle.dcm_base.specs.Tables.Representation.{is_text};
+ghost use Rattle.dcm_base.specs.Dump.Dump.{line_start};
+ghost use Rattle.dcm_base.specs.Tables.Representation.{letters};
 ghost use Rattle.dcm_base.specs.Steps.Atoms.{value_byte, closes_leaf};
 ghost use Rattle.dcm_devices.specs.Writing.{Wrote};
 ghost use Rattle.dcm_base.specs.declared.mode.Mode.TheVariants.{Full};
 ghost use Rattle.dcm_stream.specs.Tokens.{atoms_of, whole_atoms, IsLeaf};
+ghost use Rattle.dcm_sinks.specs.DecodedDump.{is_decoded};
 ghost use Rattle.dcm_sinks.specs.DumpSink.{dump_start};
 ghost use Rattle.dcm_sinks.specs.Encoder.{opening};
 ghost use Rattle.dcm_sinks.specs.TextDump as spec;
@@ -20,7 +22,9 @@ use dcm_base::{
 use dcm_head::Head;
 use dcm_stream::Token;
 use dcm_text::Sets;
-use dcm_value::{DecodedText, append_decoded, is_plain_value, put_decoded, takes_bytes};
+use dcm_value::{
+    DecodedText, append_decoded, append_whole_ascii, is_plain_value, put_decoded, takes_bytes,
+};
 
 /// Where a dump is whose texts are shown by characters: the lines of all else, whose text is being shown, and the text.
 /// Where none is, the text is of none.
@@ -33,17 +37,9 @@ pub struct TextLines {
     ghost same: { ForSome owner (λ _. (decoded_progress text).display.mode ≡ lines.mode) },
 }
 
-/// The most bytes of a text that goes right to its line. Of a longer one it is first asked whether it is plain ASCII, which
-/// goes out faster as before.
+/// The most bytes of a text that goes right to its line. A longer one is first looked at, since plain ASCII goes out faster
+/// as before.
 const SHORT: usize = 64;
-
-/// Whether a value is a short text, and no unique identifier.
-#[inline(always)]
-fn is_short_text(vr: Vr, size: usize) -> bool
-    ensures { result ≡ (nat_le size SHORT && is_text vr) }
-{
-    size <= SHORT && vr.is_text()
-}
 
 /// Whether an element is shown as before, whatever is in force: one that is no text, or of plain ASCII.
 #[inline(always)]
@@ -71,11 +67,11 @@ impl TextLines {
     fn opens_text(&self, head: Head, syntax: Syntax) -> bool
         ensures { result ≡ spec.opens_text (state self.now) head.tag head.vr head.length syntax }
     {
-        if self.lines.is_lost {
+        if self.lines.is_lost || !takes_bytes(head.vr) {
             return false;
         }
         match form_of(syntax, read_as(syntax, head.tag, head.vr), head.length) {
-            Form::Value => takes_bytes(head.vr),
+            Form::Value => true,
             Form::Sequence | Form::FragmentList | Form::Nothing => false,
         }
     }
@@ -110,15 +106,15 @@ impl TextLines {
         out: &mut Watched<W>,
         head: Head,
         syntax: Syntax,
-        sets: Sets,
+        sets: &Sets,
     ) -> Result<(), WriteFailed>
-        ensures state { OnOk result (state self.new ≡ spec.text_step sets (state self.old) (opening head syntax)) }
-        ensures wrote { Wrote W.DeviceOut out.old out.new (spec.text_writes sets (state self.old) (opening head syntax))
+        ensures state { OnOk result (state self.new ≡ spec.text_step sets.now (state self.old) (opening head syntax)) }
+        ensures wrote { Wrote W.DeviceOut out.old out.new (spec.text_writes sets.now (state self.old) (opening head syntax))
             result }
     {
         if self.opens_text(head, syntax) {
             let owner = Owner::Element(head.tag, head.vr);
-            return self.begin(out, owner, head.vr, sets, size_of(head.length));
+            return self.begin(out, owner, head.vr, *sets, size_of(head.length));
         }
         self.owner = None;
         self.lines.take(out, Token::Open(head, syntax))
@@ -128,11 +124,11 @@ impl TextLines {
         &mut self,
         out: &mut Watched<W>,
         bytes: &[u8],
-        sets: Sets,
+        sets: &Sets,
     ) -> Result<(), WriteFailed>
         ensures state { OnOk result (state self.new
-            ≡ fold (spec.text_step sets) (state self.old) (map value_byte bytes.now)) }
-        ensures wrote { Wrote W.DeviceOut out.old out.new (shows sets (state self.old) (map value_byte bytes.now))
+            ≡ fold (spec.text_step sets.now) (state self.old) (map value_byte bytes.now)) }
+        ensures wrote { Wrote W.DeviceOut out.old out.new (shows sets.now (state self.old) (map value_byte bytes.now))
             result }
     {
         let Some(owner) = self.owner.take() else {
@@ -144,9 +140,9 @@ impl TextLines {
         Ok(())
     }
 
-    fn close<W: DeviceOut>(&mut self, out: &mut Watched<W>, sets: Sets) -> Result<(), WriteFailed>
-        ensures state { OnOk result (state self.new ≡ spec.text_step sets (state self.old) closes_leaf) }
-        ensures wrote { Wrote W.DeviceOut out.old out.new (spec.text_writes sets (state self.old) closes_leaf) result }
+    fn close<W: DeviceOut>(&mut self, out: &mut Watched<W>, sets: &Sets) -> Result<(), WriteFailed>
+        ensures state { OnOk result (state self.new ≡ spec.text_step sets.now (state self.old) closes_leaf) }
+        ensures wrote { Wrote W.DeviceOut out.old out.new (spec.text_writes sets.now (state self.old) closes_leaf) result }
     {
         let Some(owner) = self.owner.take() else {
             return self.lines.take(out, Token::CloseLeaf);
@@ -176,11 +172,11 @@ impl TextLines {
         &mut self,
         out: &mut Watched<W>,
         token: Token,
-        sets: Sets,
+        sets: &Sets,
     ) -> Result<(), WriteFailed>
-        ensures state { OnOk result (state self.new ≡ fold (spec.text_step sets) (state self.old)
+        ensures state { OnOk result (state self.new ≡ fold (spec.text_step sets.now) (state self.old)
             (atoms_of token.entry)) }
-        ensures wrote { Wrote W.DeviceOut out.old out.new (shows sets (state self.old) (atoms_of token.entry)) result }
+        ensures wrote { Wrote W.DeviceOut out.old out.new (shows sets.now (state self.old) (atoms_of token.entry)) result }
     {
         match token {
             Token::Open(head, syntax) => self.open(out, head, syntax, sets),
@@ -205,12 +201,12 @@ impl TextLines {
         head: Head,
         syntax: Syntax,
         value: &[u8],
-        sets: Sets,
+        sets: &Sets,
     ) -> Result<(), WriteFailed>
         ensures state { OnOk result (state self.new
-            ≡ fold (spec.text_step sets) (state self.old) (whole_atoms head syntax value.now)) }
+            ≡ fold (spec.text_step sets.now) (state self.old) (whole_atoms head syntax value.now)) }
         ensures wrote { Wrote W.DeviceOut out.old out.new
-            (shows sets (state self.old) (whole_atoms head syntax value.now)) result }
+            (shows sets.now (state self.old) (whole_atoms head syntax value.now)) result }
     {
         self.take(out, Token::Open(head, syntax), sets)?;
         if !value.is_empty() {
@@ -219,40 +215,33 @@ impl TextLines {
         self.take(out, Token::CloseLeaf, sets)
     }
 
-    /// Writes the line of a text that is whole. It is put together and goes out at once, but in full mode where it is
-    /// long.
-    #[inline(never)]
-    fn put_text<W: DeviceOut>(
+    /// Writes the line of a text that is whole, of which the line has no more than its start. It is put together and goes
+    /// out at once, but in full mode where it is long.
+    #[inline(always)]
+    fn put_characters<W: DeviceOut>(
         &mut self,
         out: &mut Watched<W>,
         head: Head,
         syntax: Syntax,
         value: &[u8],
-        sets: Sets,
+        sets: &Sets,
     ) -> Result<(), WriteFailed>
         requires leaf { IsLeaf head syntax value.now }
         requires text { spec.opens_text (state self.old) head.tag head.vr head.length syntax ≡ true }
+        requires begun { self.old.lines.line.items
+            ≡ line_start (length self.old.lines.lengths) head.tag (letters head.vr) }
+        requires within { length self.old.lines.line.items ≤ 271 }
         ensures state { OnOk result (state self.new
-            ≡ fold (spec.text_step sets) (state self.old) (whole_atoms head syntax value.now)) }
+            ≡ fold (spec.text_step sets.now) (state self.old) (whole_atoms head syntax value.now)) }
         ensures wrote { Wrote W.DeviceOut out.old out.new
-            (shows sets (state self.old) (whole_atoms head syntax value.now)) result }
+            (shows sets.now (state self.old) (whole_atoms head syntax value.now)) result }
     {
-        let level = self.lines.lengths.depth();
-        begin_line(&mut self.lines.line, level, head.tag, head.vr.letters());
-        let shown = append_decoded(self.lines.mode, head.vr, sets, value, &mut self.lines.line);
+        let shown = append_decoded(self.lines.mode, head.vr, *sets, value, &mut self.lines.line);
         let Some(count) = shown else {
             return self.put_other(out, head, syntax, value, sets);
         };
         self.owner = None;
-        self.lines.owner = None;
-        put_rest(
-            out,
-            self.lines.dictionary,
-            &mut self.lines.line,
-            head.tag,
-            head.length,
-            count,
-        )
+        self.lines.put_line_rest(out, head, count)
     }
 
     /// Writes the line of a text that is whole, of which the line has no more than its start.
@@ -262,14 +251,14 @@ impl TextLines {
         head: Head,
         syntax: Syntax,
         value: &[u8],
-        sets: Sets,
+        sets: &Sets,
     ) -> Result<(), WriteFailed>
         requires leaf { IsLeaf head syntax value.now }
         requires text { spec.opens_text (state self.old) head.tag head.vr head.length syntax ≡ true }
         ensures state { OnOk result (state self.new
-            ≡ fold (spec.text_step sets) (state self.old) (whole_atoms head syntax value.now)) }
+            ≡ fold (spec.text_step sets.now) (state self.old) (whole_atoms head syntax value.now)) }
         ensures wrote { Wrote W.DeviceOut out.old out.new
-            (shows sets (state self.old) (whole_atoms head syntax value.now)) result }
+            (shows sets.now (state self.old) (whole_atoms head syntax value.now)) result }
     {
         match self.lines.mode {
             Mode::Short => self.take_in_parts(out, head, syntax, value, sets),
@@ -284,20 +273,20 @@ impl TextLines {
         head: Head,
         syntax: Syntax,
         value: &[u8],
-        sets: Sets,
+        sets: &Sets,
     ) -> Result<(), WriteFailed>
         requires leaf { IsLeaf head syntax value.now }
         requires full { self.old.lines.mode ≡ Full }
         requires text { spec.opens_text (state self.old) head.tag head.vr head.length syntax ≡ true }
         ensures state { OnOk result (state self.new
-            ≡ fold (spec.text_step sets) (state self.old) (whole_atoms head syntax value.now)) }
+            ≡ fold (spec.text_step sets.now) (state self.old) (whole_atoms head syntax value.now)) }
         ensures wrote { Wrote W.DeviceOut out.old out.new
-            (shows sets (state self.old) (whole_atoms head syntax value.now)) result }
+            (shows sets.now (state self.old) (whole_atoms head syntax value.now)) result }
     {
         let lines = &mut self.lines;
         let level = lines.lengths.depth();
         put_line_start(out, &mut lines.line, level, head.tag, head.vr.letters())?;
-        let count = put_decoded(head.vr, sets, value, out)?;
+        let count = put_decoded(head.vr, *sets, value, out)?;
         self.owner = None;
         lines.owner = None;
         lines.line.clear();
@@ -311,9 +300,66 @@ impl TextLines {
         )
     }
 
-    /// Writes what an element makes whose value is whole, as `take` does by its head, its bytes and its end. Short texts
-    /// are appended right to the line, so that they are looked at once. All else that is shown as without characters goes
-    /// the way of `Lines`.
+    /// Writes what a text makes that is whole, of any length. Plain ASCII is shown as before.
+    #[inline(never)]
+    fn take_long_text<W: DeviceOut>(
+        &mut self,
+        out: &mut Watched<W>,
+        head: Head,
+        syntax: Syntax,
+        value: &[u8],
+        sets: &Sets,
+    ) -> Result<(), WriteFailed>
+        requires { IsLeaf head syntax value.now }
+        ensures state { OnOk result (state self.new
+            ≡ fold (spec.text_step sets.now) (state self.old) (whole_atoms head syntax value.now)) }
+        ensures wrote { Wrote W.DeviceOut out.old out.new
+            (shows sets.now (state self.old) (whole_atoms head syntax value.now)) result }
+    {
+        if is_as_before(head.vr, value) {
+            self.owner = None;
+            return self.lines.take_whole(out, head, syntax, value);
+        }
+        if self.opens_text(head, syntax) {
+            let level = self.lines.lengths.depth();
+            begin_line(&mut self.lines.line, level, head.tag, head.vr.letters());
+            return self.put_characters(out, head, syntax, value, sets);
+        }
+        self.take_in_parts(out, head, syntax, value, sets)
+    }
+
+    /// Writes what a text makes that is whole. Plain ASCII of at most 64 bytes is appended right to the line, so that it is
+    /// looked at once; only behind it the sets are asked.
+    #[inline(never)]
+    fn take_short_text<W: DeviceOut>(
+        &mut self,
+        out: &mut Watched<W>,
+        head: Head,
+        syntax: Syntax,
+        value: &[u8],
+        sets: &Sets,
+    ) -> Result<(), WriteFailed>
+        requires leaf { IsLeaf head syntax value.now }
+        requires text { is_decoded head.vr ≡ true }
+        ensures state { OnOk result (state self.new
+            ≡ fold (spec.text_step sets.now) (state self.old) (whole_atoms head syntax value.now)) }
+        ensures wrote { Wrote W.DeviceOut out.old out.new
+            (shows sets.now (state self.old) (whole_atoms head syntax value.now)) result }
+    {
+        if self.lines.is_lost {
+            return self.take_in_parts(out, head, syntax, value, sets);
+        }
+        let level = self.lines.lengths.depth();
+        begin_line(&mut self.lines.line, level, head.tag, head.vr.letters());
+        let Some(count) = append_whole_ascii(head.vr, value, &mut self.lines.line) else {
+            return self.put_characters(out, head, syntax, value, sets);
+        };
+        self.owner = None;
+        self.lines.put_line_rest(out, head, count)
+    }
+
+    /// Writes what an element makes whose value is whole, as `take` does by its head, its bytes and its end. Numbers go the
+    /// way of `Lines`.
     #[inline(always)]
     pub fn take_whole<W: DeviceOut>(
         &mut self,
@@ -321,24 +367,22 @@ impl TextLines {
         head: Head,
         syntax: Syntax,
         value: &[u8],
-        sets: Sets,
+        sets: &Sets,
     ) -> Result<(), WriteFailed>
         requires { IsLeaf head syntax value.now }
         ensures state { OnOk result (state self.new
-            ≡ fold (spec.text_step sets) (state self.old) (whole_atoms head syntax value.now)) }
+            ≡ fold (spec.text_step sets.now) (state self.old) (whole_atoms head syntax value.now)) }
         ensures wrote { Wrote W.DeviceOut out.old out.new
-            (shows sets (state self.old) (whole_atoms head syntax value.now)) result }
+            (shows sets.now (state self.old) (whole_atoms head syntax value.now)) result }
     {
-        if is_short_text(head.vr, value.len()) && !self.lines.is_lost {
-            return self.put_text(out, head, syntax, value, sets);
-        }
-        if is_as_before(head.vr, value) {
+        if !takes_bytes(head.vr) {
             self.owner = None;
             return self.lines.take_whole(out, head, syntax, value);
         }
-        if self.opens_text(head, syntax) {
-            return self.put_text(out, head, syntax, value, sets);
+        if value.len() <= SHORT {
+            self.take_short_text(out, head, syntax, value, sets)
+        } else {
+            self.take_long_text(out, head, syntax, value, sets)
         }
-        self.take_in_parts(out, head, syntax, value, sets)
     }
 }

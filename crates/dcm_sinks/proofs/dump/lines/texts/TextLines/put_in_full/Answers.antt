@@ -38,7 +38,7 @@ returns-in_err-put_line_start-clause-wrote g c =
     in
     record {
       bytes = part_failed _ _ (line_start level a.head.tag (letters a.head.vr)) _ _ _ c.from_residual.result c.from_residual.ensures.0 begun
-          (in_parts a.sets s a.head a.syntax a.value.now c.requires.leaf c.requires.text c.requires.full)
+          (in_parts a.sets.now s a.head a.syntax a.value.now c.requires.leaf c.requires.text c.requires.full)
           c.in_err-put_line_start.ensures.bytes;
       failed = search rules;
     }
@@ -48,14 +48,14 @@ returns-in_err-count-clause-wrote g c =
     let a = c.args in
     let s : TextState = state a.self.now in
     let level : ℕ = length a.self.now.lines.lengths in
-    let text : List ℕ = decoded_text_of Full a.head.vr a.sets a.value.now in
-    let rest : List ℕ = line_rest s.lines.dictionary a.head.tag a.head.length (decoded_count a.head.vr a.sets a.value.now) in
+    let text : List ℕ = decoded_text_of Full a.head.vr a.sets.now a.value.now in
+    let rest : List ℕ = line_rest s.lines.dictionary a.head.tag a.head.length (decoded_count a.head.vr a.sets.now a.value.now) in
     let begun =
     ap (λ (n : ℕ). line_start n a.head.tag c.letters.result) c.depth-level.ensures.depth ∙ ap (line_start level a.head.tag) c.letters.ensures
     in
     record {
       bytes = parts_put _ _ _ (line_start level a.head.tag (letters a.head.vr)) _ (text ++ rest) (text ++ rest) _ c.from_residual-in_err-count.result begun refl
-          (in_parts a.sets s a.head a.syntax a.value.now c.requires.leaf c.requires.text c.requires.full)
+          (in_parts a.sets.now s a.head a.syntax a.value.now c.requires.leaf c.requires.text c.requires.full)
           c.in_ok-put_line_start.ensures.bytes
           (part_failed _ _ text text rest _ c.from_residual-in_err-count.result c.from_residual-in_err-count.ensures.0 refl refl c.in_err-count.ensures.wrote.bytes);
       failed = search rules;
@@ -64,15 +64,15 @@ returns-in_err-count-clause-wrote g c =
 pub returns-clause-state : goal.returns-clause-state
 returns-clause-state g c =
     let a = c.args in
-    always c.put_rest.result _ (sym (whole_leaves a.sets (state a.self.now) a.head a.syntax a.value.now c.requires.leaf c.requires.text))
+    always c.put_rest.result _ (sym (whole_leaves a.sets.now (state a.self.now) a.head a.syntax a.value.now c.requires.leaf c.requires.text))
 
 pub returns-clause-wrote : goal.returns-clause-wrote
 returns-clause-wrote g c =
     let a = c.args in
     let s : TextState = state a.self.now in
     let level : ℕ = length a.self.now.lines.lengths in
-    let text : List ℕ = decoded_text_of Full a.head.vr a.sets a.value.now in
-    let rest : List ℕ = line_rest s.lines.dictionary a.head.tag a.head.length (decoded_count a.head.vr a.sets a.value.now) in
+    let text : List ℕ = decoded_text_of Full a.head.vr a.sets.now a.value.now in
+    let rest : List ℕ = line_rest s.lines.dictionary a.head.tag a.head.length (decoded_count a.head.vr a.sets.now a.value.now) in
     let begun =
     ap (λ (n : ℕ). line_start n a.head.tag c.letters.result) c.depth-level.ensures.depth ∙ ap (line_start level a.head.tag) c.letters.ensures
     in
@@ -82,7 +82,7 @@ returns-clause-wrote g c =
     in
     record {
       bytes = parts_put _ _ _ (line_start level a.head.tag (letters a.head.vr)) _ (text ++ rest) (text ++ rest) _ c.put_rest.result begun refl
-          (in_parts a.sets s a.head a.syntax a.value.now c.requires.leaf c.requires.text c.requires.full)
+          (in_parts a.sets.now s a.head a.syntax a.value.now c.requires.leaf c.requires.text c.requires.full)
           c.in_ok-put_line_start.ensures.bytes
           (parts_put _ _ _ text text rest _ _ c.put_rest.result refl ended refl c.in_ok-count.ensures.wrote.bytes c.put_rest.ensures.bytes);
       failed = search rules;

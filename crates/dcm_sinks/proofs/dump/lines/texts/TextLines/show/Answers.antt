@@ -18,12 +18,12 @@ returns-in_default-clause-state g c =
     let s = c.args.self.now in
     let p = decoded_progress s.text in
     then_ok c.take-in_default.result c.take-in_default.ensures.state
-    (λ e. took_passed c.args.sets (lines_state s.lines) (lines_state c.take-in_default.new.self) s.owner c.take.new.self p p c.args.bytes.now (sym c.take.ensures.value ∙ c.in_default.is) c.take.ensures.after e)
+    (λ e. took_passed c.args.sets.now (lines_state s.lines) (lines_state c.take-in_default.new.self) s.owner c.take.new.self p p c.args.bytes.now (sym c.take.ensures.value ∙ c.in_default.is) c.take.ensures.after e)
 
 pub returns-in_default-clause-wrote : goal.returns-in_default-clause-wrote
 returns-in_default-clause-wrote g c =
     let s = c.args.self.now in
-    let same = showed_passed c.args.sets (lines_state s.lines) s.owner (decoded_progress s.text) c.args.bytes.now (sym c.take.ensures.value ∙ c.in_default.is) in
+    let same = showed_passed c.args.sets.now (lines_state s.lines) s.owner (decoded_progress s.text) c.args.bytes.now (sym c.take.ensures.value ∙ c.in_default.is) in
     record {
       bytes = subst (λ (bytes : List ℕ). Puts (g.W.DeviceOut.contents c.args.out.now) (g.W.DeviceOut.contents c.take-in_default.new.out) bytes c.take-in_default.result) same c.take-in_default.ensures.wrote.bytes;
       failed = search rules;
@@ -38,7 +38,7 @@ returns-in_err-feed-clause-wrote g c =
     let settled = sym (settled_of s.text.shown.mode s.text.shown.count s.text.shown.front.items s.text.shown.capped s.text.shown.filled) in
     let now : state s ≡ in_text (lines_state s.lines) v p = ap (with_text (lines_state s.lines)) (is_open s.owner v p c.in-Some.ensures.value) in
     let wrote =
-    shows_piece c.args.sets (lines_state s.lines) v p c.min.result c.missing.result c.args.bytes.now _ _
+    shows_piece c.args.sets.now (lines_state s.lines) v p c.min.result c.missing.result c.args.bytes.now _ _
     c.min.ensures c.missing.ensures c.split_at.ensures.front c.split_at.ensures.back begun settled (state s) now
     in
     record {
@@ -75,7 +75,7 @@ returns-clause-state g c =
     let settled = sym (settled_of s.text.shown.mode s.text.shown.count s.text.shown.front.items s.text.shown.capped s.text.shown.filled) in
     let now : state s ≡ in_text (lines_state s.lines) v p = ap (with_text (lines_state s.lines)) (is_open s.owner v p c.in-Some.ensures.value) in
     let took =
-    takes_piece c.args.sets (lines_state s.lines) v p c.min.result c.missing.result c.args.bytes.now _ _
+    takes_piece c.args.sets.now (lines_state s.lines) v p c.min.result c.missing.result c.args.bytes.now _ _
     c.min.ensures c.missing.ensures c.split_at.ensures.front c.split_at.ensures.back begun settled (state s) now
     in
     ap (in_text (lines_state s.lines) v) c.in_ok-feed.ensures.state ∙ sym took
@@ -89,7 +89,7 @@ returns-clause-wrote g c =
     let settled = sym (settled_of s.text.shown.mode s.text.shown.count s.text.shown.front.items s.text.shown.capped s.text.shown.filled) in
     let now : state s ≡ in_text (lines_state s.lines) v p = ap (with_text (lines_state s.lines)) (is_open s.owner v p c.in-Some.ensures.value) in
     let wrote =
-    shows_piece c.args.sets (lines_state s.lines) v p c.min.result c.missing.result c.args.bytes.now _ _
+    shows_piece c.args.sets.now (lines_state s.lines) v p c.min.result c.missing.result c.args.bytes.now _ _
     c.min.ensures c.missing.ensures c.split_at.ensures.front c.split_at.ensures.back begun settled (state s) now
     in
     record { bytes = c.in_ok-feed.ensures.wrote.bytes ∙ ap (append_known (g.W.DeviceOut.contents c.args.out.now)) (sym wrote); failed = search rules }
