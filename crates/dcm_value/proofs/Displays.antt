@@ -23,6 +23,7 @@ pub mod DecodedOpenings
 pub mod DecodedEndings
 pub mod DecodedAscii
 pub mod DecodedWholes
+pub mod AsciiLanes
 pub mod DecodedAsBefore
 pub mod DecodedUtf8
 pub mod DecodedShort

@@ -1,8 +1,8 @@
 // The bytes of a text as a dump shows them.
-ghost use Rattle.std.specs.Prelude.{◌≡◌, ◌<◌, ◌≤◌, ◌+◌, ◌*◌, ◌++◌, ◌/◌, ◌%◌, ◌==◌, ◌&&◌, if◌then◌else◌, [], ◌∷◌, length, take, drop, not, nat_lt, true};
+ghost use Rattle.std.specs.Prelude.{◌≡◌, ◌<◌, ◌≤◌, ◌+◌, ◌*◌, ◌++◌, ◌/◌, ◌%◌, ◌==◌, ◌&&◌, if◌then◌else◌, [], ◌∷◌, length, drop, not, nat_lt};
 ghost use Rattle.std.specs.Prelude.{count_by, position};
 ghost use Rattle.dcm_base.specs.Dump.ValueText as spec;
-ghost use Rattle.dcm_value.specs.Plain.{is_plain_byte, is_ascii_byte, ascii_size};
+ghost use Rattle.dcm_value.specs.Plain.{is_plain_byte, is_ascii_byte, ascii_size, lowest_of_eight};
 ghost use Rattle.std.specs.List.{list_all, list_any};
 
 use arrayvec::ArrayVec;
@@ -203,29 +203,45 @@ fn ascii_front_singly(bytes: &[u8]) -> usize
     }
 }
 
-/// How many blocks of eight bytes in front are shown as they are, whatever Specific Character Set is in force.
-fn ascii_blocks(bytes: &[u8]) -> usize
-    ensures within { TEXT_LANES * result ≤ length bytes.now }
-    ensures plain { list_all is_ascii_byte (take (TEXT_LANES * result) bytes.now) ≡ true }
+/// The place of the lowest bit that is set, of eight, or eight.
+#[inline(always)]
+fn lowest_set(bits: u64) -> usize
+    ensures { result ≡ lowest_of_eight bits }
 {
-    let blocks = bytes.len() / TEXT_LANES;
-    for block in 0..blocks {
-        if has_others(u8x8::from_slice(&bytes[TEXT_LANES * block..])) {
-            return block;
-        }
+    if bits == 0 {
+        TEXT_LANES
+    } else {
+        bits.trailing_zeros() as usize
     }
-    blocks
+}
+
+/// How many of eight bytes in front are shown as they are, whatever Specific Character Set is in force.
+#[inline(always)]
+fn ascii_of_eight(bytes: u8x8) -> usize
+    ensures { result ≡ ascii_size bytes }
+{
+    let controls = bytes.simd_lt(u8x8::splat(32));
+    let high = bytes.simd_gt(u8x8::splat(LAST_ASCII));
+    let escaped = bytes.simd_eq(u8x8::splat(b'%')) | bytes.simd_eq(u8x8::splat(b']'));
+    let others = controls | high | escaped;
+    lowest_set(others.to_bitmask())
 }
 
 /// How many bytes in front are shown as they are, whatever Specific Character Set is in force. Eight bytes are looked at
-/// together, up to those among which another one is.
+/// together.
 pub fn ascii_front(bytes: &[u8]) -> usize
     ensures value { result ≡ ascii_size bytes.now }
     ensures most { result ≤ length bytes.now }
 {
-    let front = TEXT_LANES * ascii_blocks(bytes);
-    let (_, rest) = bytes.split_at(front);
-    front + ascii_front_singly(rest)
+    let blocks = bytes.len() / TEXT_LANES;
+    for block in 0..blocks {
+        let size = ascii_of_eight(u8x8::from_slice(&bytes[TEXT_LANES * block..]));
+        if size < TEXT_LANES {
+            return TEXT_LANES * block + size;
+        }
+    }
+    let (_, rest) = bytes.split_at(TEXT_LANES * blocks);
+    TEXT_LANES * blocks + ascii_front_singly(rest)
 }
 
 /// A byte of a text as a dump shows it: a control, `%` and `]` by `%` and two digits in upper case, and each other byte
