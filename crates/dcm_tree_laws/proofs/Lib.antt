@@ -40,3 +40,6 @@ pub mod Held
 pub mod Answered
 pub mod SinglesBy
 pub mod Seen
+pub mod Works
+pub mod Ends
+pub mod Working

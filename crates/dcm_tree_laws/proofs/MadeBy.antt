@@ -48,7 +48,7 @@ pub record MadeAt {I O : Type 0} (h : Host I O) (IsWhole : ℕ → List ℕ → 
   pub out : HasOutput h IsWhole part (below output relative) t
   pub way : (folder behind : List ℕ) → relative ≡ below folder behind → FolderAt h part t (below output folder)
 
-made_stays : {I O : Type 0} (h : Host I O) (IsWhole : ℕ → List ℕ → Type 0) (part output relative : List ℕ) (t u : Tree) → Stays h part output t u → MadeAt h IsWhole part output relative t → MadeAt h IsWhole part output relative u
+pub made_stays : {I O : Type 0} (h : Host I O) (IsWhole : ℕ → List ℕ → Type 0) (part output relative : List ℕ) (t u : Tree) → Stays h part output t u → MadeAt h IsWhole part output relative t → MadeAt h IsWhole part output relative u
 made_stays h IsWhole part output relative t u stays made = record {
   fits = made.fits;
   text = made.text;
@@ -56,7 +56,7 @@ made_stays h IsWhole part output relative t u stays made = record {
   way = λ folder behind is. folder_stays h part output t u (below output folder) stays (made.way folder behind is);
 }
 
-made_there : {I O : Type 0} (h : Host I O) (IsWhole : ℕ → List ℕ → Type 0) (part output relative : List ℕ) (t : Tree) → MadeAt h IsWhole part output relative t → IsThere h output relative t
+abbrev pub made_there : {I O : Type 0} (h : Host I O) (IsWhole : ℕ → List ℕ → Type 0) (part output relative : List ℕ) (t : Tree) → MadeAt h IsWhole part output relative t → IsThere h output relative t
 made_there h IsWhole part output relative t made = record {
   fits = made.fits;
   file = record { text = made.text; found = made.out.file; is = made.out.is; kind_is = made.out.kind };
@@ -70,7 +70,7 @@ way_joined output relative folder behind is =
 within_it : (output folder : List ℕ) → length output < length (below output folder)
 within_it output folder = omega (arith, length-append (output ++ codes "/") folder, length-append output (codes "/"))
 
-new_made : {I O : Type 0} (h : Host I O) (IsWhole : ℕ → List ℕ → Type 0) (part output relative : List ℕ) (t u : Tree) → nat_le (length (below output relative)) PATH_LIMIT ≡ true → NewOutput h IsWhole part output (below output relative) t u
+pub new_made : {I O : Type 0} (h : Host I O) (IsWhole : ℕ → List ℕ → Type 0) (part output relative : List ℕ) (t u : Tree) → nat_le (length (below output relative)) PATH_LIMIT ≡ true → NewOutput h IsWhole part output (below output relative) t u
     → MadeAt h IsWhole part output relative u
 new_made h IsWhole part output relative t u fits new = record {
   fits = fits;

@@ -11,3 +11,4 @@ pub mod Twice
 pub mod Part
 pub mod Single
 pub mod Shares
+pub mod Determined

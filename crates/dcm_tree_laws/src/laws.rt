@@ -2,6 +2,7 @@
 ghost use Rattle.dcm_trees.specs.World.{world};
 ghost use Rattle.dcm_tree_laws.specs.Again.{AgainIsStill, AgainIsStillOfList, ThereIsLeft};
 ghost use Rattle.dcm_tree_laws.specs.Again.{MadeIsThere, MadeIsThereOfList};
+ghost use Rattle.dcm_tree_laws.specs.Determined.{OneEnd, EndIsAnswer, OneInstance};
 ghost use Rattle.dcm_tree_laws.specs.Distinct.{OutputsAreDistinct, OutputsAreDistinctOfList};
 ghost use Rattle.dcm_tree_laws.specs.Laws.{NeverHalf, NeverHalfByWords, OthersStay, OthersStayByWords};
 ghost use Rattle.dcm_tree_laws.specs.OneRow.{OneRow, OneRowOfList};
@@ -80,6 +81,14 @@ pub fn again_is_still<I: DeviceIn, O: DeviceOut, W: DeviceOut, E: DeviceOut, F>(
     ensures twice { SecondIsStill F I.DeviceIn O.DeviceOut W.DeviceOut E.DeviceOut }
     ensures folder { AgainIsStill F I.DeviceIn O.DeviceOut W.DeviceOut E.DeviceOut }
     ensures list { AgainIsStillOfList F I.DeviceIn O.DeviceOut W.DeviceOut E.DeviceOut }
+{}
+
+/// What becomes of a file is determined by its bytes. Its job has one output and comes to one thing, or it has none for
+/// one reason. The output is what a single run writes, and a file names one instance.
+pub fn bytes_say_the_end()
+    ensures end { OneEnd }
+    ensures answer { EndIsAnswer }
+    ensures instance { OneInstance }
 {}
 
 /// Runs that share a tree have each name once. Each relative name is of exactly one of the shares 1 to N of N. Where
