@@ -68,7 +68,7 @@ same_mode a b e = cc
 -- ---- the folders on the way
 
 -- a folder on the way to an output is one of its name
-way_cut : (output relative folder rest : List ℕ) → below output relative ≡ below (below output folder) rest → relative ≡ below folder rest
+pub way_cut : (output relative folder rest : List ℕ) → below output relative ≡ below (below output folder) rest → relative ≡ below folder rest
 way_cut output relative folder rest is =
     append_cancel_left (output ++ codes "/") relative (below folder rest)
     (is ∙ ap (λ (x : List ℕ). x ++ rest) (append_assoc (output ++ codes "/") folder (codes "/")) ∙ append_assoc (output ++ codes "/") (folder ++ codes "/") rest)

@@ -43,3 +43,9 @@ pub mod Seen
 pub mod Works
 pub mod Ends
 pub mod Working
+pub mod Touched
+pub mod Frees
+pub mod Fates
+pub mod Stages
+pub mod TogetherBy
+pub mod ElseBy

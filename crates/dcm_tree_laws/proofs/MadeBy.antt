@@ -81,8 +81,8 @@ new_made h IsWhole part output relative t u fits new = record {
 
 -- ---- a name that was written by itself
 
-record ByName (m : Manner) (n : Named) (done : Done) : Type 0 where
-  its : done.instance ≡ None
+pub record ByName (m : Manner) (n : Named) (done : Done) : Type 0 where
+  pub its : done.instance ≡ None
   fits : nat_le (length (below m.output n.relative)) PATH_LIMIT ≡ true
 
 fits_if : (b : Bool) (path other : List ℕ) → (if b then Some path else None) ≡ Some other → b ≡ true
@@ -108,12 +108,12 @@ file_by h r w e m n mode from before result to after done keeps (files.keeps_nam
 file_by h r w e m n mode from before result to after done keeps (files.keeps_name became index kept (files.placed path at does) is) ok written =
     record { its = its_own became result done is ok; fits = fits_if (nat_le (length (below m.output n.relative)) PATH_LIMIT) (below m.output n.relative) path at }
 
-name_by : {I O F E : Type 0} (h : Host I O) (r : Reader I) (w : Writer O) (e : Writer E) (m : Manner) (n : Named) (what : What) (from : E) (before : FileSystem) (result : Result Done PartThere) (to : E) (after : FileSystem) (done : Done) → m.keeps_names ≡ true
+pub name_by : {I O F E : Type 0} (h : Host I O) (r : Reader I) (w : Writer O) (e : Writer E) (m : Manner) (n : Named) (what : What) (from : E) (before : FileSystem) (result : Result Done PartThere) (to : E) (after : FileSystem) (done : Done) → m.keeps_names ≡ true
     → DoesName (over {F = F} h r w e) m n what from before result to after → result ≡ Ok done → is_written done.fate ≡ true → ByName m n done
 name_by {I} {O} {F} h r w e m n what from before result to after done keeps (files.a_file mode is does) ok written = file_by {F = F} h r w e m n mode from before result to after done keeps does ok written
 name_by h r w e m n what from before result to after done keeps (files.no_file other told is same) ok written = of_fate result (fate_of what) done is ok (what_not what) written
 
-name_made : {I O F E : Type 0} (h : Host I O) (r : Reader I) (w : Writer O) (e : Writer E) (m : Manner) (n : Named) (what : What) (from : E) (before : FileSystem) (to : E) (after : FileSystem) (done : Done) → m.keeps_names ≡ true → before.written ≡ None → IsOfOutput m.output m.part
+pub name_made : {I O F E : Type 0} (h : Host I O) (r : Reader I) (w : Writer O) (e : Writer E) (m : Manner) (n : Named) (what : What) (from : E) (before : FileSystem) (to : E) (after : FileSystem) (done : Done) → m.keeps_names ≡ true → before.written ≡ None → IsOfOutput m.output m.part
     → DoesName (over {F = F} h r w e) m n what from before (Ok done) to after → is_written done.fate ≡ true → MadeAt h (IsOutput h r w) m.part m.output n.relative after.now
 name_made {I} {O} {F} h r w e m n what from before to after done keeps none of_output does written =
     let by : ByName m n done = name_by {F = F} h r w e m n what from before (Ok done) to after done keeps does refl written in

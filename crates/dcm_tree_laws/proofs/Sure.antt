@@ -60,7 +60,7 @@ module _ {S O F : Type 0} (d e : FoldersDo S O F) (can : Implies d e) where
   has_folder path before r after (places.no_folder cause x tried t call k f is) = places.no_folder cause x tried t (can.folder before path _ tried call) k (finds_folder d e can.sees path tried false after f) is
   has_folder path before r after (places.not_made cause x t call k is) = places.not_made cause x t (can.folder before path _ after call) k is
 
-  are_made : (path : List ℕ) (base : ℕ) (before : S) (at : ℕ) (after : S) → AreMade d path base before at after → AreMade e path base before at after
+  pub are_made : (path : List ℕ) (base : ℕ) (before : S) (at : ℕ) (after : S) → AreMade d path base before at after → AreMade e path base before at after
   are_made path base before at after (places.none_made a s) = places.none_made a s
   are_made path base before at after (places.and_made from size mid more slash has a) = places.and_made from size mid (are_made path base before from mid more) slash (has_folder _ mid (Ok _) after has) a
 

@@ -12,3 +12,4 @@ pub mod Part
 pub mod Single
 pub mod Shares
 pub mod Determined
+pub mod Together
