@@ -104,7 +104,7 @@ module _ {I O F : Type 0} (h : Host I O) where
   seen_nothing path before seen after text none (looking.looked found t call is) = is ∙ ap Ok (call.0.0 ∙ none)
   seen_nothing path before seen after text none (looking.not_looked e u t call is) = absurd (call.1 e refl)
 
-  finds_free : (output relative path : List ℕ) → path ≡ below output relative → (before : FileSystem) (p : Place) (after : FileSystem) → IsFree h output relative before.now → Finds (sure (folders_do {F = F} h)) path (length output + 1) before p after → is_free p ≡ true
+  pub finds_free : (output relative path : List ℕ) → path ≡ below output relative → (before : FileSystem) (p : Place) (after : FileSystem) → IsFree h output relative before.now → Finds (sure (folders_do {F = F} h)) path (length output + 1) before p after → is_free p ≡ true
   finds_free output relative path is before p after free (looking.missing l at) = ap is_free at
   finds_free output relative path is before p after free (looking.blocked l at) = absurd (not_blocked output relative path is before _ after free l refl)
   finds_free output relative path is before p after free (looking.at_its_end seen mid l looked_at at) =
@@ -137,7 +137,7 @@ abbrev pub Frees : {I O : Type 0} → Host I O → Manner → (relative : List �
 Frees h k relative = IsUntouched h k.part k.output relative relative ⊥
 
 module _ {I O : Type 0} (h : Host I O) (k : Manner) (relative : List ℕ) (clear : Frees h k relative) where
-  then_free : (t u : Tree) → Touches h k.part k.output relative ⊥ t u → IsFree h k.output relative t → IsFree h k.output relative u
+  pub then_free : (t u : Tree) → Touches h k.part k.output relative ⊥ t u → IsFree h k.output relative t → IsFree h k.output relative u
   then_free t u touches free = free_stays h k.part k.output relative relative ⊥ clear t u touches free
 
 module _ {I O F : Type 0} (h : Host I O) (k : Manner) (relative path : List ℕ) (is : path ≡ below k.output relative) (clear : Frees h k relative) where
@@ -161,7 +161,7 @@ module _ {I O F : Type 0} (h : Host I O) (r : Reader I) (w : Writer O) (k : Mann
   is_linked IsWhole base start before naming after i free (parts.not_linked x tried t u call m) =
       absurd (call.1 (λ none. none_some (at_path h before.now k.part) (ready i).file none (ready i).is) (ap (λ (p : List ℕ). at_path h before.now p) is ∙ free.nothing))
 
-  gets_name : (IsWhole : ℕ → List ℕ → Type 0) (start before : FileSystem) (naming : Naming) (after : FileSystem) → IsReady h IsWhole k.part k.output bytes start before → IsFree h k.output relative before.now
+  pub gets_name : (IsWhole : ℕ → List ℕ → Type 0) (start before : FileSystem) (naming : Naming) (after : FileSystem) → IsReady h IsWhole k.part k.output bytes start before → IsFree h k.output relative before.now
       → GivesName (working_may h r w (may_do h)) (Works {F = F} h) k.part path (length k.output + 1) before naming after → naming ≡ Linked
   gets_name IsWhole start before naming after i free (parts.no_way x m y) = absurd (way_not {F = F} h k relative path is clear (length k.output + 1) (omega arith) before x after free m)
   gets_name IsWhole start before naming after i free (parts.on_its_way has_way m g) =
@@ -172,7 +172,7 @@ module _ {I O F : Type 0} (h : Host I O) (r : Reader I) (w : Writer O) (k : Mann
 
 -- ---- the job
 
-abbrev as_any : {I O : Type 0} (h : Host I O) (r : Reader I) (w : Writer O) (job : Job) (input : I) (output : O) (before : FileSystem) (ending : Ending) (after : FileSystem) → Fills (working_may h r w (may_do h)) (as_whole h r) w job input output before ending after
+abbrev pub as_any : {I O : Type 0} (h : Host I O) (r : Reader I) (w : Writer O) (job : Job) (input : I) (output : O) (before : FileSystem) (ending : Ending) (after : FileSystem) → Fills (working_may h r w (may_do h)) (as_whole h r) w job input output before ending after
     → Fills (may_do h) (as_whole h r) w job input output before ending after
 as_any h r w job input output before ending after f = record { left = f.left; written = f.written; closed = f.closed; finished = f.finished; closes = f.closes.0; releases = f.releases }
 
@@ -204,7 +204,7 @@ no_job_by task bytes fate (no_days.Refused stop) is none = record { end = no_job
 no_job_by task bytes fate (no_days.Unread count) is none = absurd none
 no_job_by task bytes fate no_days.Unopened is none = absurd none
 
-part_not : {I O F : Type 0} (h : Host I O) (part : List ℕ) (mode : ℕ) (before : FileSystem) (cause : NoPart) (after : FileSystem) → IsUtf8 part → MakesPart (Works {F = F} h) part mode before (Err cause) after → cause ≡ PartNotMade → ⊥
+pub part_not : {I O F : Type 0} (h : Host I O) (part : List ℕ) (mode : ℕ) (before : FileSystem) (cause : NoPart) (after : FileSystem) → IsUtf8 part → MakesPart (Works {F = F} h) part mode before (Err cause) after → cause ≡ PartNotMade → ⊥
 part_not h part mode before cause after text (parts.no_text t is same) not = t text
 part_not h part mode before cause after text (parts.made o t call is) not = absurd (cc)
 part_not h part mode before cause after text (parts.is_there e t call k is) not = absurd (cc)

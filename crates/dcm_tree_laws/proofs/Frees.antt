@@ -107,3 +107,11 @@ made_kept h task output relative mode bytes t u apart keeps made = record {
   mode_is = made.mode_is;
   answered = subst (IsAnswered task bytes) (sym (keeps.bytes _ made.file apart made.is)) made.answered;
 }
+
+-- ---- one name after another
+
+-- what a name does to the output of one, before which a tree is so, and after which it is done: where it is that name, and of its share
+pub record Stepped (IsSo IsDone : Tree → Type 0) (x v : Visit) (IsIts : Type 0) (t u : Tree) : Type 0 where
+  pub stage : IsSo t → IsSo u
+  pub keeps : IsDone t → IsDone u
+  pub came : v ≡ x → IsIts → IsSo t → IsDone u

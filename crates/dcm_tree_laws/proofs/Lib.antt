@@ -48,4 +48,8 @@ pub mod Frees
 pub mod Fates
 pub mod Stages
 pub mod TogetherBy
+pub mod TouchedAs
+pub mod FatesAs
+pub mod StagesAs
+pub mod Staged
 pub mod ElseBy

@@ -124,7 +124,7 @@ module _ {I O : Type 0} (h : Host I O) (part output relative : List ℕ) (IsName
   removes before after (parts.removed (Ok u) t call) = part_removed before after call
   removes before after (parts.removed (Err x) t call) = λ place. as_it_was (ap (λ (s : FileSystem). s.now.at place) call)
 
-  clears : (naming : Naming) (before after : FileSystem) → ClearsPart (may_do {I = I} h) naming part before after → Touches h part output relative IsNamed before.now after.now
+  pub clears : (naming : Naming) (before after : FileSystem) → ClearsPart (may_do {I = I} h) naming part before after → Touches h part output relative IsNamed before.now after.now
   clears naming before after (parts.moved is e) = still before after e
   clears naming before after (parts.removed is r) = removes before after r
 
@@ -185,7 +185,7 @@ module _ {I O F : Type 0} (h : Host I O) (part output relative : List ℕ) (IsNa
 named_by : (naming other : Naming) → naming ≡ other → is_named other ≡ true → is_named naming ≡ true
 named_by naming other is named = ap is_named is ∙ named
 
-named_written : (naming : Naming) (fate : Fate) (continues : Bool) → is_written fate ≡ true → is_named naming ≡ true → is_written (naming_fate naming fate continues) ≡ true
+pub named_written : (naming : Naming) (fate : Fate) (continues : Bool) → is_written fate ≡ true → is_named naming ≡ true → is_written (naming_fate naming fate continues) ≡ true
 named_written Linked fate continues written named = written
 named_written Moved fate continues written named = written
 named_written (NotFree place) fate continues written named = absurd (cc)
@@ -213,7 +213,7 @@ module _ {I O F : Type 0} (h : Host I O) (IsWhole : ℕ → List ℕ → Type 0)
   second naming base start before after r (parts.not_linked e tried t u call m) =
       then_touches h part output relative (is_named naming ≡ true) before.now tried.now after.now (still h part output relative (is_named naming ≡ true) before tried call) (if_free naming base start tried after (then_steps r (quiet call)) m)
 
-  gives : (naming : Naming) (start before after : FileSystem) → IsReady h IsWhole part output bytes start before → GivesName (may_do {I = I} h) (folders_do {F = F} h) part path (length output + 1) before naming after
+  pub gives : (naming : Naming) (start before after : FileSystem) → IsReady h IsWhole part output bytes start before → GivesName (may_do {I = I} h) (folders_do {F = F} h) part path (length output + 1) before naming after
       → Touches h part output relative (is_named naming ≡ true) before.now after.now
   gives naming start before after r (parts.no_way e m n) = way_made {F = F} h part output relative (is_named naming ≡ true) path is (length output + 1) (omega arith) before (Err e) after m
   gives naming start before after r (parts.on_its_way has_way m g) =

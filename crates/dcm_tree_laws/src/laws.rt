@@ -10,7 +10,7 @@ ghost use Rattle.dcm_tree_laws.specs.Outputs.{WrittenIsThere, WrittenIsThereOfLi
 ghost use Rattle.dcm_tree_laws.specs.Part.{NoPartAfterRun, NoPartLeft, NoPartLeftByList};
 ghost use Rattle.dcm_tree_laws.specs.Shares.{ManifestOfShare, OneOutput, OneShare, RowsOfRuns};
 ghost use Rattle.dcm_tree_laws.specs.Single.{SingleRuns, SingleRunsOfList};
-ghost use Rattle.dcm_tree_laws.specs.Together.{NothingElse, PartsAreOne};
+ghost use Rattle.dcm_tree_laws.specs.Together.{InstancesAreOne, NothingElse, NothingElseAs, PartsAreOne};
 ghost use Rattle.dcm_tree_laws.specs.Twice.{SecondIsStill};
 
 use dcm_base::{DeviceIn, DeviceOut};
@@ -102,12 +102,15 @@ pub fn names_are_shared()
     ensures output { OneOutput }
 {}
 
-/// Runs that share a tree leave the files that one run leaves. Runs of all shares keep names and are done in any order,
-/// each over what the one before left. At the path of the output of each file is then what one run of all names leaves
-/// there: what was there before, nothing, or a file of the same mode with the same bytes. At each other place is what
-/// was there, or a folder. So it is where no call fails that need not, and no run ends before its last name. Names that
-/// come to one output have one mode and the same bytes, and no output is on the way to another one.
+/// Runs that share a tree leave the files that one run leaves. Runs of all shares are done in any order, each over what
+/// the one before left; all keep names, or all name outputs by the instances in them. At the path of the output of each
+/// file is then what one run of all names leaves there: what was there before, nothing, or a file of the same mode with
+/// the same bytes. At each other place is what was there, or a folder. So it is where no call fails that need not, and
+/// no run ends before its last name. Names that come to one output have one mode and the same bytes, and no output is
+/// on the way to another one.
 pub fn parts_are_one<I: DeviceIn, O: DeviceOut, W: DeviceOut, E: DeviceOut, F>()
     ensures files { PartsAreOne F I.DeviceIn O.DeviceOut W.DeviceOut E.DeviceOut }
+    ensures instances { InstancesAreOne F I.DeviceIn O.DeviceOut W.DeviceOut E.DeviceOut }
     ensures nothing_else { NothingElse F I.DeviceIn O.DeviceOut W.DeviceOut E.DeviceOut }
+    ensures nothing_else_as { NothingElseAs F I.DeviceIn O.DeviceOut W.DeviceOut E.DeviceOut }
 {}
