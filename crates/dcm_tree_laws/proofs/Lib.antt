@@ -43,3 +43,8 @@ pub mod Seen
 pub mod Works
 pub mod Ends
 pub mod Working
+pub mod CopyLeft
+pub mod CopiesBy
+pub mod CopyMade
+pub mod CopiesMade
+pub mod CopiedBy

@@ -12,3 +12,5 @@ pub mod Part
 pub mod Single
 pub mod Shares
 pub mod Determined
+pub mod Copies
+pub mod Copied
