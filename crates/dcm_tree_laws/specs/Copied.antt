@@ -29,8 +29,8 @@ use Rattle.dcm_tree_laws.specs.Twice.{OfRows, FileIs, WasWritten}
 -- ---- what a run leaves to the next one
 
 -- a copy of an output is there, of the instance that its row names
-pub record HasCopyOf {I O : Type 0} (h : Host I O) (task : Task) (output : List ℕ) (t : Tree) (path : List ℕ) (done : Done)
-    : Type 0 where
+pub record HasCopyOf {I O : Type 0} (h : Host I O) (task : Task) (output : List ℕ) (t : Tree) (path : List ℕ)
+    (done : Done) : Type 0 where
   pub uids : Uids
   pub named : IsNamedBy uids done
   pub copy : HasCopy h task output t path uids

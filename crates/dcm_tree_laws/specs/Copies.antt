@@ -40,8 +40,8 @@ use Rattle.dcm_tree_laws.specs.Single.{TellsAll}
 
 -- what a run makes of the file at a path is there already: the job of that, as it is now, is done and writes what names
 -- this instance; and a file of the same bytes is at the path of the instance in the folder of the outputs
-pub record HasCopy {I O : Type 0} (h : Host I O) (task : Task) (output : List ℕ) (t : Tree) (path : List ℕ) (uids : Uids)
-    : Type 0 where
+pub record HasCopy {I O : Type 0} (h : Host I O) (task : Task) (output : List ℕ) (t : Tree) (path : List ℕ)
+    (uids : Uids) : Type 0 where
   pub text : IsUtf8 path
   pub input : FileAt h Followed t path
   pub made : List ℕ
