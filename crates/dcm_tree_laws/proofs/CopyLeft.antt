@@ -132,7 +132,7 @@ still_whole h part held before now x = record {
 
 -- ---- the part is removed
 
-removed : {I O : Type 0} (h : Host I O) (r : Reader I) (w : Writer O) (part : List ℕ) (before after : FileSystem) → IsUtf8 part → after.unremoved ≡ false → RemovesPart (working_may h r w (may_do h)) part before after → Removes h part before after
+pub removed : {I O : Type 0} (h : Host I O) (r : Reader I) (w : Writer O) (part : List ℕ) (before after : FileSystem) → IsUtf8 part → after.unremoved ≡ false → RemovesPart (working_may h r w (may_do h)) part before after → Removes h part before after
 removed h r w part before after text gone (parts.no_text t same) = absurd (t text)
 removed h r w part before after text gone (parts.removed (Ok u) t call) = call
 removed h r w part before after text gone (parts.removed (Err e) t call) = true_false after.unremoved (ap (λ (s : FileSystem). s.unremoved) call) gone
@@ -181,7 +181,7 @@ no_lines name naming same is alike = ap (λ (x : Naming). naming_lines name x sa
 fate_there : (naming : Naming) (fate : Fate) (same : Bool) → naming ≡ NotFree places.There → same ≡ true → naming_fate naming fate same ≡ There
 fate_there naming fate same is alike = ap (λ (x : Naming). naming_fate x fate same) is ∙ ap (λ (b : Bool). naming_fate (NotFree places.There) fate b) alike
 
-no_output : {A O : Type 0} (cause : NoPart) (output : O) → Err cause ≡ Ok output → A
+pub no_output : {A O : Type 0} (cause : NoPart) (output : O) → Err cause ≡ Ok output → A
 no_output cause output e = absurd (cc)
 
 no_job_by : {A : Type 0} (task : Task) (held : List ℕ) (cause : NoDays) (job : Job) → IsJobOf task held job → JobIs task held (Err cause) → A

@@ -46,5 +46,7 @@ pub mod Working
 pub mod CopyLeft
 pub mod CopiesBy
 pub mod CopyMade
+pub mod UnnamedLeft
+pub mod UnnamedMade
 pub mod CopiesMade
 pub mod CopiedBy
