@@ -53,3 +53,10 @@ pub mod FatesAs
 pub mod StagesAs
 pub mod Staged
 pub mod ElseBy
+pub mod CopyLeft
+pub mod CopiesBy
+pub mod CopyMade
+pub mod UnnamedLeft
+pub mod UnnamedMade
+pub mod CopiesMade
+pub mod CopiedBy

@@ -13,3 +13,5 @@ pub mod Single
 pub mod Shares
 pub mod Determined
 pub mod Together
+pub mod Copies
+pub mod Copied

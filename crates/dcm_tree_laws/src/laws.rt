@@ -2,6 +2,9 @@
 ghost use Rattle.dcm_trees.specs.World.{world};
 ghost use Rattle.dcm_tree_laws.specs.Again.{AgainIsStill, AgainIsStillOfList, ThereIsLeft};
 ghost use Rattle.dcm_tree_laws.specs.Again.{MadeIsThere, MadeIsThereOfList};
+ghost use Rattle.dcm_tree_laws.specs.Copied.{CopiesAreThere, CopiesAreThereOfList};
+ghost use Rattle.dcm_tree_laws.specs.Copied.{SecondIsAsItWas, SecondIsAsItWasOfList};
+ghost use Rattle.dcm_tree_laws.specs.Copies.{CopyIsLeft, UnnamedIsLeft, AgainIsAsItWas, AgainIsAsItWasOfList};
 ghost use Rattle.dcm_tree_laws.specs.Determined.{OneEnd, EndIsAnswer, OneInstance};
 ghost use Rattle.dcm_tree_laws.specs.Distinct.{OutputsAreDistinct, OutputsAreDistinctOfList};
 ghost use Rattle.dcm_tree_laws.specs.Laws.{NeverHalf, NeverHalfByWords, OthersStay, OthersStayByWords};
@@ -90,6 +93,22 @@ pub fn bytes_say_the_end()
     ensures end { OneEnd }
     ensures answer { EndIsAnswer }
     ensures instance { OneInstance }
+{}
+
+/// A run that names outputs by the instances in them does each file again. Where its output is there, with the same
+/// bytes, that is left, the row is `there`, and only what the job came to is told. What has no job, or is refused, or
+/// names no instance, ends so again. Where that is so of all names, all is at the end as it was. So it is after a first
+/// run that met nothing at the names of its outputs, and the rows are those of that, but `there` for `written` and
+/// `unplaced`. It is said where no call fails that need not.
+pub fn again_is_as_it_was<I: DeviceIn, O: DeviceOut, W: DeviceOut, E: DeviceOut, F>()
+    ensures made { CopiesAreThere F I.DeviceIn O.DeviceOut W.DeviceOut E.DeviceOut }
+    ensures made_by_list { CopiesAreThereOfList F I.DeviceIn O.DeviceOut W.DeviceOut E.DeviceOut }
+    ensures twice { SecondIsAsItWas F I.DeviceIn O.DeviceOut W.DeviceOut E.DeviceOut }
+    ensures twice_by_list { SecondIsAsItWasOfList F I.DeviceIn O.DeviceOut W.DeviceOut E.DeviceOut }
+    ensures name { CopyIsLeft F I.DeviceIn O.DeviceOut E.DeviceOut }
+    ensures no_name { UnnamedIsLeft F I.DeviceIn O.DeviceOut E.DeviceOut }
+    ensures folder { AgainIsAsItWas F I.DeviceIn O.DeviceOut W.DeviceOut E.DeviceOut }
+    ensures list { AgainIsAsItWasOfList F I.DeviceIn O.DeviceOut W.DeviceOut E.DeviceOut }
 {}
 
 /// Runs that share a tree have each name once. Each relative name is of exactly one of the shares 1 to N of N. Where
