@@ -58,7 +58,7 @@ gives_answer (deidentify options reports key) input out verdict h = read_gives (
 true_false : {A : Type 0} (b : Bool) → b ≡ true → b ≡ false → A
 true_false b e f = absurd (cc)
 
-not_so : {A : Type 0} (ending other : Ending) → ending ≡ other → is_written (ending_fate other) ≡ false → is_written (ending_fate ending) ≡ true → A
+pub not_so : {A : Type 0} (ending other : Ending) → ending ≡ other → is_written (ending_fate other) ≡ false → is_written (ending_fate ending) ≡ true → A
 not_so ending other is not done = true_false (is_written (ending_fate ending)) done (ap (λ (x : Ending). is_written (ending_fate x)) is ∙ not)
 
 -- where all was done, no device failed in it
@@ -84,10 +84,10 @@ wrote job input left before after worked verdict is (run.answered out other h e 
 wrote job input left before after worked verdict is (run.could_not_read p rest out whole at sure e grown) = absurd (no_unread worked verdict (length p) is e)
 wrote job input left before after worked verdict is (run.could_not_write out other h e grown) = absurd (no_output worked verdict is e)
 
-some_same : (a b : List ℕ) → Some a ≡ Some b → a ≡ b
+pub some_same : (a b : List ℕ) → Some a ≡ Some b → a ≡ b
 some_same a b e = cc
 
-from_nothing : (known : Option (List ℕ)) (out : List ℕ) → known ≡ Some [] → append_known known out ≡ Some out
+pub from_nothing : (known : Option (List ℕ)) (out : List ℕ) → known ≡ Some [] → append_known known out ≡ Some out
 from_nothing known out is = ap (λ (x : Option (List ℕ)). append_known x out) is
 
 -- what a new output took of a job that was done

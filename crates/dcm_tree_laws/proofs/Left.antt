@@ -62,13 +62,13 @@ no_path : (fits : Bool) (path : List ℕ) → fits ≡ true → (if fits then So
 no_path true path is none = absurd (cc)
 no_path false path is none = absurd (cc)
 
-same_mode : (a b : ℕ) → File a ≡ File b → a ≡ b
+pub same_mode : (a b : ℕ) → File a ≡ File b → a ≡ b
 same_mode a b e = cc
 
 -- ---- the folders on the way
 
 -- a folder on the way to an output is one of its name
-way_cut : (output relative folder rest : List ℕ) → below output relative ≡ below (below output folder) rest → relative ≡ below folder rest
+pub way_cut : (output relative folder rest : List ℕ) → below output relative ≡ below (below output folder) rest → relative ≡ below folder rest
 way_cut output relative folder rest is =
     append_cancel_left (output ++ codes "/") relative (below folder rest)
     (is ∙ ap (λ (x : List ℕ). x ++ rest) (append_assoc (output ++ codes "/") folder (codes "/")) ∙ append_assoc (output ++ codes "/") (folder ++ codes "/") rest)
@@ -101,7 +101,7 @@ module _ {I O F : Type 0} (h : Host I O) (output relative path : List ℕ) (befo
   no_block way after (places.to_its_end at f slash w) block = absurd (cc)
   no_block way after (places.ended at size seen end mid f slash l ends w) block = goes_along at size seen end mid after f slash l ends
 
-finds_there : {I O F : Type 0} (h : Host I O) (output relative path : List ℕ) (before : FileSystem) (p : Place) (after : FileSystem) → path ≡ below output relative → IsThere h output relative before.now
+pub finds_there : {I O F : Type 0} (h : Host I O) (output relative path : List ℕ) (before : FileSystem) (p : Place) (after : FileSystem) → path ≡ below output relative → IsThere h output relative before.now
     → Finds (sure (folders_do {F = F} h)) path (length output + 1) before p after → p ≡ place.There
 finds_there {I} {O} {F} h output relative path before p after is there (places.missing l at) = absurd (no_gap {F = F} h output relative path before is there _ after l refl)
 finds_there {I} {O} {F} h output relative path before p after is there (places.blocked l at) = absurd (no_block {F = F} h output relative path before is there _ after l refl)
@@ -112,7 +112,7 @@ finds_there {I} {O} {F} h output relative path before p after is there (places.a
 
 -- ---- it is left
 
-no_free : {A : Type 0} (p : Place) → p ≡ place.There → is_free p ≡ true → A
+pub no_free : {A : Type 0} (p : Place) → p ≡ place.There → is_free p ≡ true → A
 no_free p is free = let no : is_free place.There ≡ true = ap is_free (sym is) ∙ free in absurd (cc)
 
 no_lines : (name : List ℕ) (p : Place) (continues : Bool) → p ≡ place.There → continues ≡ true → place_lines name p continues ≡ []
@@ -121,7 +121,7 @@ no_lines name p continues is goes = ap (λ (x : Place). place_lines name x conti
 is_there : (p : Place) (continues : Bool) → p ≡ place.There → continues ≡ true → place_fate p continues ≡ There
 is_there p continues is goes = ap (λ (x : Place). place_fate x continues) is ∙ ap (λ (b : Bool). place_fate place.There b) goes
 
-too_long : (output relative : List ℕ) → nat_le (length (below output relative)) PATH_LIMIT ≡ true → path_in output relative ≡ None → ⊥
+pub too_long : (output relative : List ℕ) → nat_le (length (below output relative)) PATH_LIMIT ≡ true → path_in output relative ≡ None → ⊥
 too_long output relative fits none = no_path (nat_le (length (below output relative)) PATH_LIMIT) (below output relative) fits none
 
 -- how it is done where its path is short enough

@@ -48,7 +48,7 @@ pub record MadeAt {I O : Type 0} (h : Host I O) (IsWhole : ℕ → List ℕ → 
   pub out : HasOutput h IsWhole part (below output relative) t
   pub way : (folder behind : List ℕ) → relative ≡ below folder behind → FolderAt h part t (below output folder)
 
-made_stays : {I O : Type 0} (h : Host I O) (IsWhole : ℕ → List ℕ → Type 0) (part output relative : List ℕ) (t u : Tree) → Stays h part output t u → MadeAt h IsWhole part output relative t → MadeAt h IsWhole part output relative u
+pub made_stays : {I O : Type 0} (h : Host I O) (IsWhole : ℕ → List ℕ → Type 0) (part output relative : List ℕ) (t u : Tree) → Stays h part output t u → MadeAt h IsWhole part output relative t → MadeAt h IsWhole part output relative u
 made_stays h IsWhole part output relative t u stays made = record {
   fits = made.fits;
   text = made.text;
@@ -56,7 +56,7 @@ made_stays h IsWhole part output relative t u stays made = record {
   way = λ folder behind is. folder_stays h part output t u (below output folder) stays (made.way folder behind is);
 }
 
-made_there : {I O : Type 0} (h : Host I O) (IsWhole : ℕ → List ℕ → Type 0) (part output relative : List ℕ) (t : Tree) → MadeAt h IsWhole part output relative t → IsThere h output relative t
+abbrev pub made_there : {I O : Type 0} (h : Host I O) (IsWhole : ℕ → List ℕ → Type 0) (part output relative : List ℕ) (t : Tree) → MadeAt h IsWhole part output relative t → IsThere h output relative t
 made_there h IsWhole part output relative t made = record {
   fits = made.fits;
   file = record { text = made.text; found = made.out.file; is = made.out.is; kind_is = made.out.kind };
@@ -70,7 +70,7 @@ way_joined output relative folder behind is =
 within_it : (output folder : List ℕ) → length output < length (below output folder)
 within_it output folder = omega (arith, length-append (output ++ codes "/") folder, length-append output (codes "/"))
 
-new_made : {I O : Type 0} (h : Host I O) (IsWhole : ℕ → List ℕ → Type 0) (part output relative : List ℕ) (t u : Tree) → nat_le (length (below output relative)) PATH_LIMIT ≡ true → NewOutput h IsWhole part output (below output relative) t u
+pub new_made : {I O : Type 0} (h : Host I O) (IsWhole : ℕ → List ℕ → Type 0) (part output relative : List ℕ) (t u : Tree) → nat_le (length (below output relative)) PATH_LIMIT ≡ true → NewOutput h IsWhole part output (below output relative) t u
     → MadeAt h IsWhole part output relative u
 new_made h IsWhole part output relative t u fits new = record {
   fits = fits;
@@ -81,8 +81,8 @@ new_made h IsWhole part output relative t u fits new = record {
 
 -- ---- a name that was written by itself
 
-record ByName (m : Manner) (n : Named) (done : Done) : Type 0 where
-  its : done.instance ≡ None
+pub record ByName (m : Manner) (n : Named) (done : Done) : Type 0 where
+  pub its : done.instance ≡ None
   fits : nat_le (length (below m.output n.relative)) PATH_LIMIT ≡ true
 
 fits_if : (b : Bool) (path other : List ℕ) → (if b then Some path else None) ≡ Some other → b ≡ true
@@ -108,12 +108,12 @@ file_by h r w e m n mode from before result to after done keeps (files.keeps_nam
 file_by h r w e m n mode from before result to after done keeps (files.keeps_name became index kept (files.placed path at does) is) ok written =
     record { its = its_own became result done is ok; fits = fits_if (nat_le (length (below m.output n.relative)) PATH_LIMIT) (below m.output n.relative) path at }
 
-name_by : {I O F E : Type 0} (h : Host I O) (r : Reader I) (w : Writer O) (e : Writer E) (m : Manner) (n : Named) (what : What) (from : E) (before : FileSystem) (result : Result Done PartThere) (to : E) (after : FileSystem) (done : Done) → m.keeps_names ≡ true
+pub name_by : {I O F E : Type 0} (h : Host I O) (r : Reader I) (w : Writer O) (e : Writer E) (m : Manner) (n : Named) (what : What) (from : E) (before : FileSystem) (result : Result Done PartThere) (to : E) (after : FileSystem) (done : Done) → m.keeps_names ≡ true
     → DoesName (over {F = F} h r w e) m n what from before result to after → result ≡ Ok done → is_written done.fate ≡ true → ByName m n done
 name_by {I} {O} {F} h r w e m n what from before result to after done keeps (files.a_file mode is does) ok written = file_by {F = F} h r w e m n mode from before result to after done keeps does ok written
 name_by h r w e m n what from before result to after done keeps (files.no_file other told is same) ok written = of_fate result (fate_of what) done is ok (what_not what) written
 
-name_made : {I O F E : Type 0} (h : Host I O) (r : Reader I) (w : Writer O) (e : Writer E) (m : Manner) (n : Named) (what : What) (from : E) (before : FileSystem) (to : E) (after : FileSystem) (done : Done) → m.keeps_names ≡ true → before.written ≡ None → IsOfOutput m.output m.part
+pub name_made : {I O F E : Type 0} (h : Host I O) (r : Reader I) (w : Writer O) (e : Writer E) (m : Manner) (n : Named) (what : What) (from : E) (before : FileSystem) (to : E) (after : FileSystem) (done : Done) → m.keeps_names ≡ true → before.written ≡ None → IsOfOutput m.output m.part
     → DoesName (over {F = F} h r w e) m n what from before (Ok done) to after → is_written done.fate ≡ true → MadeAt h (IsOutput h r w) m.part m.output n.relative after.now
 name_made {I} {O} {F} h r w e m n what from before to after done keeps none of_output does written =
     let by : ByName m n done = name_by {F = F} h r w e m n what from before (Ok done) to after done keeps does refl written in

@@ -22,7 +22,7 @@ use Rattle.dcm_tree_laws.proofs.Runs.{visit_name}
 use Rattle.dcm_tree_laws.proofs.Steps.{no_step}
 use Rattle.dcm_tree_laws.proofs.Walks.{VisitsDo, walks_do}
 
-visit_leaves : {I O F W E : Type 0} (h : Host I O) (r : Reader I) (w : Writer O) (e : Writer E) (rows : Writer W) (shared : Shared) (from : Progress W) (told_before : E) (before : FileSystem) (n : Named) (what : What) (result : Result (Unit {0}) Stopped)
+pub visit_leaves : {I O F W E : Type 0} (h : Host I O) (r : Reader I) (w : Writer O) (e : Writer E) (rows : Writer W) (shared : Shared) (from : Progress W) (told_before : E) (before : FileSystem) (n : Named) (what : What) (result : Result (Unit {0}) Stopped)
     (to : Progress W) (told : E) (after : FileSystem) → before.written ≡ None → IsOfOutput (manner_of shared.manner).output (manner_of shared.manner).part
     → VisitsName (over {F = F} h r w e) rows shared from told_before before n what result to told after → LeavesPart h (manner_of shared.manner).part before after
 visit_leaves h r w e rows shared from told_before before n what result to told after none of_output (work.of_another share t told_is same is) = still_leaves h (manner_of shared.manner).part before after same

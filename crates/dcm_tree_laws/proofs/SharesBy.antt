@@ -166,13 +166,13 @@ manifest_of_share became shared visits text (and_row earlier before v done rows 
 same_job : (a b : Job) → same a ≡ same b → a ≡ b
 same_job a b e = cc
 
-not_same : (job : Job) (options : Options) (reports : Bool) (key : List ℕ) → same job ≡ by_days options reports key → ⊥
+pub not_same : (job : Job) (options : Options) (reports : Bool) (key : List ℕ) → same job ≡ by_days options reports key → ⊥
 not_same job options reports key e = absurd (cc)
 
 same_days : (a b : ℤ) → Days a ≡ Days b → a ≡ b
 same_days a b e = cc
 
-same_key : (o p : Options) (r q : Bool) (k l : List ℕ) → by_days o r k ≡ by_days p q l → k ≡ l
+pub same_key : (o p : Options) (r q : Bool) (k l : List ℕ) → by_days o r k ≡ by_days p q l → k ≡ l
 same_key o p r q k l e = cc
 
 same_moved : (o p : Options) (r q : Bool) (k l : List ℕ) (d e : ℤ) → by_days o r k ≡ by_days p q l → d ≡ e → deidentify (with_days o d) r k ≡ deidentify (with_days p e) q l
@@ -182,7 +182,7 @@ same_moved o p r q k l d e alike moved =
     let key : k ≡ l = cc in
     ap (λ (x : Options). deidentify (with_days x d) r k) options ∙ ap (λ (x : ℤ). deidentify (with_days p x) r k) moved ∙ ap (λ (x : Bool). deidentify (with_days p e) x k) reports ∙ ap (deidentify (with_days p e) q) key
 
-one_job : (task : Task) (bytes : List ℕ) (a b : Job) → IsJobOf task bytes a → IsJobOf task bytes b → a ≡ b
+pub one_job : (task : Task) (bytes : List ℕ) (a b : Job) → IsJobOf task bytes a → IsJobOf task bytes b → a ≡ b
 one_job task bytes a b (of_all t) (of_all u) = same_job a b (sym t ∙ u)
 one_job task bytes a b (of_all t) (of_days o r k d u f is) = absurd (not_same a o r k (sym t ∙ u))
 one_job task bytes a b (of_days o r k d u f is) (of_all t) = absurd (not_same b o r k (sym t ∙ u))

@@ -73,7 +73,7 @@ job_is h r w all task path s job after bytes (tasks.no_days options reports key 
 -- ---- the output of one name
 
 -- what an output took of a job that was done of the file at a path is its answer
-answered : {I O : Type 0} (h : Host I O) (r : Reader I) (w : Writer O) → GivesAll h r w → (task : Task) (path : List ℕ) (s mid : FileSystem) (job : Job) (input : I) (opened : FileSystem) (left : I) (made written : O) (ending : Ending)
+pub answered : {I O : Type 0} (h : Host I O) (r : Reader I) (w : Writer O) → GivesAll h r w → (task : Task) (path : List ℕ) (s mid : FileSystem) (job : Job) (input : I) (opened : FileSystem) (left : I) (made written : O) (ending : Ending)
     → FindsJob (may_do h) r task path s (Ok job) mid → OpensFile (may_do h) path mid (Some input) opened → h.took made ≡ [] → Finishes r w job input left made written ending → is_written (ending_fate ending) ≡ true
     → (bytes : List ℕ) → ((input : I) (opened : FileSystem) → OpensFile (may_do h) path s (Some input) opened → h.holds input ≡ bytes) → IsAnswered task bytes (h.took written)
 answered h r w all task path s mid job input opened left made written ending f o new finished done bytes holds =

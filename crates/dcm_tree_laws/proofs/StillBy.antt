@@ -21,7 +21,7 @@ use Rattle.dcm_trees.specs.Share.{is_of}
 use Rattle.dcm_trees.specs.Work as spec
 use Rattle.dcm_trees.specs.Work.{Progress, VisitsName, visits_of}
 use Rattle.dcm_tree_laws.specs.Again.{IsAt, IsThere, sure, over_sure, left_there, WasLeft, HasThere, OfAll, AgainIsStill, AgainIsStillOfList}
-use Rattle.dcm_tree_laws.specs.FileSystem.{FileSystem, Tree, Host, place_of, at_path, folders_do}
+use Rattle.dcm_tree_laws.specs.FileSystem.{FileSystem, Tree, Host, place_of, at_path, may_do, folders_do}
 use Rattle.dcm_tree_laws.specs.Laws.{IsOutput, part_path}
 use Rattle.dcm_tree_laws.specs.Rows.{Visit, noted}
 use Rattle.dcm_tree_laws.specs.Stays.{IsOfOutput}
@@ -33,12 +33,13 @@ use Rattle.dcm_tree_laws.proofs.OutputsBy.{Leaves, leaves, Still, then_stays, pa
 use Rattle.dcm_tree_laws.proofs.Quiet.{only_quiet, IsClosed, IsSame}
 use Rattle.dcm_tree_laws.proofs.RowsBy.{HasRows, visit_of, visit_rows, no_rows, same_manifest}
 use Rattle.dcm_tree_laws.proofs.Runs.{visit_name}
-use Rattle.dcm_tree_laws.proofs.Sure.{Implies, visits_name}
+use Rattle.dcm_tree_laws.proofs.Sure.{Implies}
 use Rattle.dcm_tree_laws.proofs.Walks.{VisitsDo, walks_do}
+use Rattle.dcm_tree_laws.proofs.Works.{allows_same, visits_name}
 
 -- ---- what is there stays there
 
-at_stays : {I O : Type 0} (h : Host I O) (kind : FoundKind) (part path : List ℕ) (start now : Tree) → start.at (place_of h part) ≡ None → Still h part start now → IsAt h kind start path → IsAt h kind now path
+abbrev pub at_stays : {I O : Type 0} (h : Host I O) (kind : FoundKind) (part path : List ℕ) (start now : Tree) → start.at (place_of h part) ≡ None → Still h part start now → IsAt h kind start path → IsAt h kind now path
 at_stays h kind part path start now none still at = record {
   text = at.text;
   found = at.found;
@@ -46,7 +47,7 @@ at_stays h kind part path start now none still at = record {
   kind_is = at.kind_is;
 }
 
-there_stays : {I O : Type 0} (h : Host I O) (part output relative : List ℕ) (start now : Tree) → start.at (place_of h part) ≡ None → Still h part start now → IsThere h output relative start → IsThere h output relative now
+abbrev pub there_stays : {I O : Type 0} (h : Host I O) (part output relative : List ℕ) (start now : Tree) → start.at (place_of h part) ≡ None → Still h part start now → IsThere h output relative start → IsThere h output relative now
 there_stays h part output relative start now none still there = record {
   fits = there.fits;
   file = at_stays h _ part _ start now none still there.file;
@@ -143,7 +144,7 @@ visits_good {I} {O} {F} {W} {E} h start r w e m shared headed from before n what
     let k : Manner = manner_of here.manner in
     let known : Kept h start m headed from.1 from.0.0.stop from.0.0.manifest before here = subst (Kept h start m headed from.1 from.0.0.stop from.0.0.manifest before) (sym good.shares) good.kept in
     let left : Leaves h k.part k.output before after = leaves h (IsOutput h r w) k.part k.output before after good.quiet known.goes.of_output
-    (visit_name {F = F} h r w e m here _ from.0.1 before n what result _ to.0.1 after (visits_name (over_sure {F = F} h r w e) (folders_do {F = F} h) (sure_may h) m here _ from.0.1 before n what result _ to.0.1 after known.goes.keeps v.0.0)) in
+    (visit_name {F = F} h r w e m here _ from.0.1 before n what result _ to.0.1 after (visits_name (over_sure {F = F} h r w e) (may_do h) (allows_same (may_do h)) (folders_do {F = F} h) (sure_may {F = F} h) m here _ from.0.1 before n what result _ to.0.1 after v.0.0)) in
     let then : Kept h start m headed to.1 to.0.0.stop to.0.0.manifest after here = record {
       goes = known.goes;
       none = known.none;

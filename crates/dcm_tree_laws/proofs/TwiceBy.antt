@@ -11,11 +11,11 @@ use Rattle.dcm_tree_laws.specs.Rows.{Visit}
 use Rattle.dcm_tree_laws.specs.Twice.{OfRows, FileIs, WasWritten, IsLeftThere, SecondIsStill}
 use Rattle.dcm_tree_laws.proofs.StillBy.{before_all, last_of_all}
 
-one_more : (Is : Visit → Type 0) (earlier : List Visit) (v : Visit) → OfAll Is earlier → Is v → OfAll Is (earlier ++ v ∷ [])
+pub one_more : (Is : Visit → Type 0) (earlier : List Visit) (v : Visit) → OfAll Is earlier → Is v → OfAll Is (earlier ++ v ∷ [])
 one_more Is [] v all last = (last, tt)
 one_more Is (x ∷ earlier) v all last = (all.0, one_more Is earlier v all.1 last)
 
-of_other_share : {A : Type 0} (b : Bool) → b ≡ false → b ≡ true → A
+pub of_other_share : {A : Type 0} (b : Bool) → b ≡ false → b ≡ true → A
 of_other_share b e f = absurd (cc)
 
 -- what a first run wrote is there

@@ -75,7 +75,7 @@ not_unnamed : (became : Result Fate PartThere) (r : Result Done PartThere) (done
 not_unnamed (Ok fate) r done is ok not = ap (λ (d : Done). is_written d.fate) (same_ok r (without_name fate) done is ok) ∙ not fate refl
 not_unnamed (Err p) r done is ok not = absurd (no_ok r p done is ok)
 
-ends_not : {E : Type 0} (e : Writer E) (name : List ℕ) (cause : NoPart) (from : E) (r : Result Done PartThere) (to : E) (done : Done) → EndsWithoutPart e name cause from r to → r ≡ Ok done → is_written done.fate ≡ false
+pub ends_not : {E : Type 0} (e : Writer E) (name : List ℕ) (cause : NoPart) (from : E) (r : Result Done PartThere) (to : E) (done : Done) → EndsWithoutPart e name cause from r to → r ≡ Ok done → is_written done.fate ≡ false
 ends_not e name cause from r to done (instance.ended became tells is) ok = not_unnamed became r done is ok (λ fate was. tells_not e name cause from became to fate tells was)
 
 instance_out : {I O F E : Type 0} (h : Host I O) (IsWhole : ℕ → List ℕ → Type 0) (r : Reader I) (w : Writer O) (e : Writer E) (job : Job) (m : Manner) (n : Named) (mode : ℕ) (from : E) (start before : FileSystem) (result : Result Done PartThere) (to : E) (after : FileSystem) (done : Done)

@@ -11,3 +11,7 @@ pub mod Twice
 pub mod Part
 pub mod Single
 pub mod Shares
+pub mod Determined
+pub mod Together
+pub mod Copies
+pub mod Copied

@@ -2,6 +2,10 @@
 ghost use Rattle.dcm_trees.specs.World.{world};
 ghost use Rattle.dcm_tree_laws.specs.Again.{AgainIsStill, AgainIsStillOfList, ThereIsLeft};
 ghost use Rattle.dcm_tree_laws.specs.Again.{MadeIsThere, MadeIsThereOfList};
+ghost use Rattle.dcm_tree_laws.specs.Copied.{CopiesAreThere, CopiesAreThereOfList};
+ghost use Rattle.dcm_tree_laws.specs.Copied.{SecondIsAsItWas, SecondIsAsItWasOfList};
+ghost use Rattle.dcm_tree_laws.specs.Copies.{CopyIsLeft, UnnamedIsLeft, AgainIsAsItWas, AgainIsAsItWasOfList};
+ghost use Rattle.dcm_tree_laws.specs.Determined.{OneEnd, EndIsAnswer, OneInstance};
 ghost use Rattle.dcm_tree_laws.specs.Distinct.{OutputsAreDistinct, OutputsAreDistinctOfList};
 ghost use Rattle.dcm_tree_laws.specs.Laws.{NeverHalf, NeverHalfByWords, OthersStay, OthersStayByWords};
 ghost use Rattle.dcm_tree_laws.specs.OneRow.{OneRow, OneRowOfList};
@@ -9,6 +13,7 @@ ghost use Rattle.dcm_tree_laws.specs.Outputs.{WrittenIsThere, WrittenIsThereOfLi
 ghost use Rattle.dcm_tree_laws.specs.Part.{NoPartAfterRun, NoPartLeft, NoPartLeftByList};
 ghost use Rattle.dcm_tree_laws.specs.Shares.{ManifestOfShare, OneOutput, OneShare, RowsOfRuns};
 ghost use Rattle.dcm_tree_laws.specs.Single.{SingleRuns, SingleRunsOfList};
+ghost use Rattle.dcm_tree_laws.specs.Together.{InstancesAreOne, NothingElse, NothingElseAs, PartsAreOne};
 ghost use Rattle.dcm_tree_laws.specs.Twice.{SecondIsStill};
 
 use dcm_base::{DeviceIn, DeviceOut};
@@ -82,6 +87,30 @@ pub fn again_is_still<I: DeviceIn, O: DeviceOut, W: DeviceOut, E: DeviceOut, F>(
     ensures list { AgainIsStillOfList F I.DeviceIn O.DeviceOut W.DeviceOut E.DeviceOut }
 {}
 
+/// What becomes of a file is determined by its bytes. Its job has one output and comes to one thing, or it has none for
+/// one reason. The output is what a single run writes, and a file names one instance.
+pub fn bytes_say_the_end()
+    ensures end { OneEnd }
+    ensures answer { EndIsAnswer }
+    ensures instance { OneInstance }
+{}
+
+/// A run that names outputs by the instances in them does each file again. Where its output is there, with the same
+/// bytes, that is left, the row is `there`, and only what the job came to is told. What has no job, or is refused, or
+/// names no instance, ends so again. Where that is so of all names, all is at the end as it was. So it is after a first
+/// run that met nothing at the names of its outputs, and the rows are those of that, but `there` for `written` and
+/// `unplaced`. It is said where no call fails that need not.
+pub fn again_is_as_it_was<I: DeviceIn, O: DeviceOut, W: DeviceOut, E: DeviceOut, F>()
+    ensures made { CopiesAreThere F I.DeviceIn O.DeviceOut W.DeviceOut E.DeviceOut }
+    ensures made_by_list { CopiesAreThereOfList F I.DeviceIn O.DeviceOut W.DeviceOut E.DeviceOut }
+    ensures twice { SecondIsAsItWas F I.DeviceIn O.DeviceOut W.DeviceOut E.DeviceOut }
+    ensures twice_by_list { SecondIsAsItWasOfList F I.DeviceIn O.DeviceOut W.DeviceOut E.DeviceOut }
+    ensures name { CopyIsLeft F I.DeviceIn O.DeviceOut E.DeviceOut }
+    ensures no_name { UnnamedIsLeft F I.DeviceIn O.DeviceOut E.DeviceOut }
+    ensures folder { AgainIsAsItWas F I.DeviceIn O.DeviceOut W.DeviceOut E.DeviceOut }
+    ensures list { AgainIsAsItWasOfList F I.DeviceIn O.DeviceOut W.DeviceOut E.DeviceOut }
+{}
+
 /// Runs that share a tree have each name once. Each relative name is of exactly one of the shares 1 to N of N. Where
 /// the same becomes of each name as in one run, the rows of the N runs together are its rows, in another order. What a
 /// single run writes of a file is one, so that a share writes the same.
@@ -90,4 +119,17 @@ pub fn names_are_shared()
     ensures rows { RowsOfRuns }
     ensures manifest { ManifestOfShare }
     ensures output { OneOutput }
+{}
+
+/// Runs that share a tree leave the files that one run leaves. Runs of all shares are done in any order, each over what
+/// the one before left; all keep names, or all name outputs by the instances in them. At the path of the output of each
+/// file is then what one run of all names leaves there: what was there before, nothing, or a file of the same mode with
+/// the same bytes. At each other place is what was there, or a folder. So it is where no call fails that need not, and
+/// no run ends before its last name. Names that come to one output have one mode and the same bytes, and no output is
+/// on the way to another one.
+pub fn parts_are_one<I: DeviceIn, O: DeviceOut, W: DeviceOut, E: DeviceOut, F>()
+    ensures files { PartsAreOne F I.DeviceIn O.DeviceOut W.DeviceOut E.DeviceOut }
+    ensures instances { InstancesAreOne F I.DeviceIn O.DeviceOut W.DeviceOut E.DeviceOut }
+    ensures nothing_else { NothingElse F I.DeviceIn O.DeviceOut W.DeviceOut E.DeviceOut }
+    ensures nothing_else_as { NothingElseAs F I.DeviceIn O.DeviceOut W.DeviceOut E.DeviceOut }
 {}

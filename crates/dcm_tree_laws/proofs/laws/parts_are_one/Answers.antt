@@ -1,0 +1,20 @@
+use Rattle.dcm_cli.proofs.Passes.Readers.{members, writer}
+use Rattle.dcm_tree_laws.proofs.ElseBy as others
+use Rattle.dcm_tree_laws.proofs.TogetherBy as together
+use Rattle.dcm_tree_laws.proofs.laws.parts_are_one.Goals as goal
+
+pub returns-clause-files : goal.returns-clause-files
+returns-clause-files g c = λ h task folder first x mode bytes count numbers after alone tells named some each runs run.
+    together.parts_are_one (members g.I.Device g.I.DeviceIn) (writer g.O.Device g.O.DeviceOut) (writer g.W.Device g.W.DeviceOut) (writer g.E.Device g.E.DeviceOut) h task folder first x mode bytes count numbers after alone tells named some each runs run
+
+pub returns-clause-nothing_else : goal.returns-clause-nothing_else
+returns-clause-nothing_else g c = λ h task folder first place count numbers after no_part runs.
+    others.nothing_else (members g.I.Device g.I.DeviceIn) (writer g.O.Device g.O.DeviceOut) (writer g.W.Device g.W.DeviceOut) (writer g.E.Device g.E.DeviceOut) h task folder first place count numbers after no_part runs
+
+pub returns-clause-instances : goal.returns-clause-instances
+returns-clause-instances g c = λ h task folder first x mode bytes out uids count numbers after alone tells named some each runs run.
+    together.instances_are_one (members g.I.Device g.I.DeviceIn) (writer g.O.Device g.O.DeviceOut) (writer g.W.Device g.W.DeviceOut) (writer g.E.Device g.E.DeviceOut) h task folder first x mode bytes out uids count numbers after alone tells named some each runs run
+
+pub returns-clause-nothing_else_as : goal.returns-clause-nothing_else_as
+returns-clause-nothing_else_as g c = λ h task folder first place count numbers after tells plain no_part runs.
+    others.nothing_else_as (members g.I.Device g.I.DeviceIn) (writer g.O.Device g.O.DeviceOut) (writer g.W.Device g.W.DeviceOut) (writer g.E.Device g.E.DeviceOut) h task folder first place count numbers after tells plain no_part runs
