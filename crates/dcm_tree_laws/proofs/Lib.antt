@@ -48,3 +48,8 @@ pub mod CopiesBy
 pub mod CopyMade
 pub mod CopiesMade
 pub mod CopiedBy
+pub mod Alike
+pub mod Onwards
+pub mod Placing
+pub mod Becomes
+pub mod FlowsBy

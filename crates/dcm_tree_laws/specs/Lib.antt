@@ -14,3 +14,4 @@ pub mod Shares
 pub mod Determined
 pub mod Copies
 pub mod Copied
+pub mod Flows

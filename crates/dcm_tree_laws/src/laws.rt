@@ -6,6 +6,7 @@ ghost use Rattle.dcm_tree_laws.specs.Copied.{CopiesAreThere, CopiesAreThereOfLis
 ghost use Rattle.dcm_tree_laws.specs.Copies.{CopyIsLeft, AgainIsAsItWas, AgainIsAsItWasOfList};
 ghost use Rattle.dcm_tree_laws.specs.Determined.{OneEnd, EndIsAnswer, OneInstance};
 ghost use Rattle.dcm_tree_laws.specs.Distinct.{OutputsAreDistinct, OutputsAreDistinctOfList};
+ghost use Rattle.dcm_tree_laws.specs.Flows.{NoNameFlows, SameBecomes};
 ghost use Rattle.dcm_tree_laws.specs.Laws.{NeverHalf, NeverHalfByWords, OthersStay, OthersStayByWords};
 ghost use Rattle.dcm_tree_laws.specs.OneRow.{OneRow, OneRowOfList};
 ghost use Rattle.dcm_tree_laws.specs.Outputs.{WrittenIsThere, WrittenIsThereOfList};
@@ -105,6 +106,17 @@ pub fn again_is_as_it_was<I: DeviceIn, O: DeviceOut, W: DeviceOut, E: DeviceOut,
     ensures name { CopyIsLeft F I.DeviceIn O.DeviceOut E.DeviceOut }
     ensures folder { AgainIsAsItWas F I.DeviceIn O.DeviceOut W.DeviceOut E.DeviceOut }
     ensures list { AgainIsAsItWasOfList F I.DeviceIn O.DeviceOut W.DeviceOut E.DeviceOut }
+{}
+
+/// No name of a file flows into the outputs that are named by the instances in them, nor does anything else of it that
+/// its job takes. Two trees are done by one task, with one folder of outputs, in runs of all their names. Their files
+/// pair in the order of the two walks: those of a pair have one mode and come to the same. Where the same was in the
+/// folder of the outputs before both runs, the same is in it after both, names too, and the status is the same. Two
+/// files come to the same that differ only in what is taken, by the laws of a single run. The modes of new folders are
+/// set aside, and so are manifest and lines, which have the old names. So it is where no call fails that need not.
+pub fn no_name_flows<I: DeviceIn, O: DeviceOut, W: DeviceOut, E: DeviceOut, F>()
+    ensures name { SameBecomes F I.DeviceIn O.DeviceOut E.DeviceOut }
+    ensures run { NoNameFlows F I.DeviceIn O.DeviceOut W.DeviceOut E.DeviceOut }
 {}
 
 /// Runs that share a tree have each name once. Each relative name is of exactly one of the shares 1 to N of N. Where
