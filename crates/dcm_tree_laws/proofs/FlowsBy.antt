@@ -124,7 +124,7 @@ chains_alike h output part task before start of_output same visits others status
 one_becomes : {I O F E : Type 0} (h : Host I O) (r : Reader I) (w : Writer O) (e : Writer E) (m : Manner) (v : Visit) (mode : ℕ) (end : FileEnd) (from : E) (s : FileSystem) (done : Done) (to : E) (after : FileSystem) → TellsAll h w → m.keeps_names ≡ false → IsUtf8 m.part → at_path h s.now m.part ≡ None → FollowsLinks h s.now
     → Fits end → v.what ≡ File mode → IsFileThatEnds h m.task s.now v end → after.unremoved ≡ false → DoesName (working {F = F} h r w e) m v.named v.what from s (Ok done) to after → Becomes h m.output m.part mode s done.fate after end
 one_becomes {I} {O} {F} h r w e m v mode end from s done to after tells by text none follows fits is file gone does =
-    becomes {F = F} h r w e m v.named v.what mode end from s done to after (whole_gives h r w tells) text by none follows fits is file.no_index file.text file.file file.ends gone does
+    becomes {F = F} h r w e m v.named v.what mode end from s done to after (whole_gives h r w tells) text by none follows fits is file.it.no_index file.it.text file.it.file file.ends gone does
 
 pub same_becomes : {I O F E : Type 0} (r : Reader I) (w : Writer O) (e : Writer E) → SameBecomes F r w e
 same_becomes {I} {O} {F} r w e h m v k from to before after done from_other to_other start end other tells by text of_output none lacks follows leads pair does does_too gone too same =
@@ -165,9 +165,9 @@ unfolding file_still
 visited {I} {O} {F} h r w e k n what start from before done to after goes still nothing part does = record {
   before_too = λ gone. (part gone).0;
   becomes = λ gone mode end is file fits.
-      becomes {F = F} h r w e k n what mode end from before done to after (whole_gives h r w goes.tells) goes.text goes.by (nothing (part gone).0) (follows_still h k.part start before.now goes.none still goes.follows) fits is file.no_index file.text
-      (file_still h k.part n.path start before.now goes.none still file.file)
-      (subst (λ (b : List ℕ). EndsAs k.task b end) (sym (still.bytes (h.leads Followed n.path) file.file.file (apart_by start (h.leads Followed n.path) (place_of h k.part) file.file.file goes.none file.file.is) file.file.is)) file.ends) gone does;
+      becomes {F = F} h r w e k n what mode end from before done to after (whole_gives h r w goes.tells) goes.text goes.by (nothing (part gone).0) (follows_still h k.part start before.now goes.none still goes.follows) fits is file.it.no_index file.it.text
+      (file_still h k.part n.path start before.now goes.none still file.it.file)
+      (subst (λ (b : List ℕ). EndsAs k.task b end) (sym (still.bytes (h.leads Followed n.path) file.it.file.file (apart_by start (h.leads Followed n.path) (place_of h k.part) file.it.file.file goes.none file.it.file.is) file.it.file.is)) file.ends) gone does;
 }
 
 -- it is of the run's share
@@ -330,8 +330,8 @@ as_first h output part other_output other_part task other start visits status is
 same_status : (a b : Bool) (n k : ℕ) → a ≡ b → n ≡ k → max (end_status run_ends.Whole b) k ≡ max (end_status run_ends.Whole a) n
 same_status a b n k is at = ap (λ (x : Bool). max (end_status run_ends.Whole x) k) (sym is) ∙ ap (λ (x : ℕ). max (end_status run_ends.Whole a) x) (sym at)
 
-pub no_name_flows : {I O F W E : Type 0} (r : Reader I) (w : Writer O) (m : Writer W) (e : Writer E) → NoNameFlows F r w m e
-no_name_flows {I} {O} {F} {W} {E} r w m e h first second before start after end visits others status again tells task output x y pairs same =
+pub leave_the_same : {I O F W E : Type 0} (r : Reader I) (w : Writer O) (m : Writer W) (e : Writer E) → NoNameFlows F r w m e
+leave_the_same {I} {O} {F} {W} {E} r w m e h first second before start after end visits others status again tells task output x y pairs same =
     let one : RunChain h first before visits status after = run_chain {F = F} h r w m e first before visits status after tells x in
     let other : RunChain h second start others again end = run_chain {F = F} h r w m e second start others again end tells y in
     let x_all : IsAll h first after = is_all {F = F} h r w m e first before visits status after x in

@@ -53,3 +53,4 @@ pub mod Onwards
 pub mod Placing
 pub mod Becomes
 pub mod FlowsBy
+pub mod TakenBy

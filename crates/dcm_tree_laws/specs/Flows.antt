@@ -23,7 +23,8 @@ use Rattle.dcm_trees.specs.Task.{Task, task_of}
 use Rattle.dcm_trees.specs.Tree.{VisitsAll, VisitsListed}
 use Rattle.dcm_trees.specs.Work.{visits_of}
 use Rattle.dcm_tree_laws.specs.Again.{sure}
-use Rattle.dcm_tree_laws.specs.Determined.{FileAt, FollowsLinks, FileEnd, was_done, EndsAs, as_whole, working, working_folders}
+use Rattle.dcm_tree_laws.specs.Determined.{FileAt, FollowsLinks, FileEnd, was_done, EndsAs, as_whole, working}
+use Rattle.dcm_tree_laws.specs.Determined.{working_folders}
 use Rattle.dcm_tree_laws.specs.FileSystem.{FileSystem, Tree, Host, number_of, at_path, folders_do}
 use Rattle.dcm_tree_laws.specs.Laws.{part_path}
 use Rattle.dcm_tree_laws.specs.Rows.{Visit, noted}
@@ -51,13 +52,17 @@ SameOutputs h output one other =
 
 -- ---- files in pairs
 
--- the file of a visit, as it is at the start, is no index of a medium, and ends so
-pub record IsFileThatEnds {I O : Type 0} (h : Host I O) (task : Task) (start : Tree) (v : Visit) (end : FileEnd)
-    : Type 0 where
+-- the file of a visit, as it is at the start, is no index of a medium
+pub record IsFile {I O : Type 0} (h : Host I O) (start : Tree) (v : Visit) : Type 0 where
   pub text : IsUtf8 v.named.path
   pub no_index : is_media_index v.named.relative ≡ false
   pub file : FileAt h Followed start v.named.path
-  pub ends : EndsAs task (start.bytes (number_of file.file)) end
+
+-- and it ends so
+pub record IsFileThatEnds {I O : Type 0} (h : Host I O) (task : Task) (start : Tree) (v : Visit) (end : FileEnd)
+    : Type 0 where
+  pub it : IsFile h start v
+  pub ends : EndsAs task (start.bytes (number_of it.file.file)) end
 
 -- two visits are of files of one mode that end alike; what is written of them is no longer than an input may be
 pub record IsPair {I O : Type 0} (h : Host I O) (task : Task) (one other : Tree) (v w : Visit) : Type 0 where
@@ -156,14 +161,19 @@ pub data RunsOver {I O W E : Type 0} (F : Type 0) (h : Host I O) (reader : Reade
       → RunsOver F h reader output m errors run before visits status after
 
 -- two runs of one task, with one folder of outputs, which is the same before them: it is the same after them, and so is
--- the status, where their files pair
-abbrev pub NoNameFlows : {I O W E : Type 0} → (F : Type 0) → Reader I → Writer O → Writer W → Writer E → Type 0
-NoNameFlows {I} {O} {W} {E} F reader output m errors =
+-- the status, where their files are such pairs
+abbrev pub LeaveTheSame : {I O W E : Type 0} → (F : Type 0) → Reader I → Writer O → Writer W → Writer E
+    → (Host I O → Task → (one other : Tree) → Visit → Visit → Type 0) → Type 0
+LeaveTheSame {I} {O} {W} {E} F reader output m errors Pair =
     (h : Host I O) (first second : TreeRun) (before start after end : FileSystem) (visits others : List Visit)
     (status again : ℕ) → TellsAll h output → task_of second.task ≡ task_of first.task
     → second.output.now ≡ first.output.now
     → RunsOver F h reader output m errors first before visits status after
     → RunsOver F h reader output m errors second start others again end
-    → InPairs (IsPair h (task_of first.task) before.now start.now) visits others
+    → InPairs (Pair h (task_of first.task) before.now start.now) visits others
     → SameOutputs h first.output.now before.now start.now
     → SameOutputs h first.output.now after.now end.now × (again ≡ status)
+
+-- where the files of each pair end alike
+abbrev pub NoNameFlows : {I O W E : Type 0} → (F : Type 0) → Reader I → Writer O → Writer W → Writer E → Type 0
+NoNameFlows F reader output m errors = LeaveTheSame F reader output m errors IsPair
