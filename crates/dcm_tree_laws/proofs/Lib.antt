@@ -60,3 +60,9 @@ pub mod UnnamedLeft
 pub mod UnnamedMade
 pub mod CopiesMade
 pub mod CopiedBy
+pub mod Alike
+pub mod Onwards
+pub mod Placing
+pub mod Becomes
+pub mod FlowsBy
+pub mod TakenBy

@@ -39,7 +39,7 @@ one_share count relative some =
       alone = λ other is. sym (eqb-true (hash relative % count + 1) other is);
     }
 
-of_one : (relative : List ℕ) → is_of 1 1 relative ≡ true
+pub of_one : (relative : List ℕ) → is_of 1 1 relative ≡ true
 of_one relative =
     let less : hash relative % 1 < 1 = mod_below (hash relative) 1 (omega arith) in
     eq-eqb (hash relative % 1 + 1) 1 (omega (arith, less))

@@ -15,3 +15,5 @@ pub mod Determined
 pub mod Together
 pub mod Copies
 pub mod Copied
+pub mod Flows
+pub mod Taken

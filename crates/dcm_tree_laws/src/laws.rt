@@ -7,12 +7,14 @@ ghost use Rattle.dcm_tree_laws.specs.Copied.{SecondIsAsItWas, SecondIsAsItWasOfL
 ghost use Rattle.dcm_tree_laws.specs.Copies.{CopyIsLeft, UnnamedIsLeft, AgainIsAsItWas, AgainIsAsItWasOfList};
 ghost use Rattle.dcm_tree_laws.specs.Determined.{OneEnd, EndIsAnswer, OneInstance};
 ghost use Rattle.dcm_tree_laws.specs.Distinct.{OutputsAreDistinct, OutputsAreDistinctOfList};
+ghost use Rattle.dcm_tree_laws.specs.Flows.{NoNameFlows, SameBecomes};
 ghost use Rattle.dcm_tree_laws.specs.Laws.{NeverHalf, NeverHalfByWords, OthersStay, OthersStayByWords};
 ghost use Rattle.dcm_tree_laws.specs.OneRow.{OneRow, OneRowOfList};
 ghost use Rattle.dcm_tree_laws.specs.Outputs.{WrittenIsThere, WrittenIsThereOfList};
 ghost use Rattle.dcm_tree_laws.specs.Part.{NoPartAfterRun, NoPartLeft, NoPartLeftByList};
 ghost use Rattle.dcm_tree_laws.specs.Shares.{ManifestOfShare, OneOutput, OneShare, RowsOfRuns};
 ghost use Rattle.dcm_tree_laws.specs.Single.{SingleRuns, SingleRunsOfList};
+ghost use Rattle.dcm_tree_laws.specs.Taken.{NothingTakenFlows};
 ghost use Rattle.dcm_tree_laws.specs.Together.{InstancesAreOne, NothingElse, NothingElseAs, PartsAreOne};
 ghost use Rattle.dcm_tree_laws.specs.Twice.{SecondIsStill};
 
@@ -109,6 +111,18 @@ pub fn again_is_as_it_was<I: DeviceIn, O: DeviceOut, W: DeviceOut, E: DeviceOut,
     ensures no_name { UnnamedIsLeft F I.DeviceIn O.DeviceOut E.DeviceOut }
     ensures folder { AgainIsAsItWas F I.DeviceIn O.DeviceOut W.DeviceOut E.DeviceOut }
     ensures list { AgainIsAsItWasOfList F I.DeviceIn O.DeviceOut W.DeviceOut E.DeviceOut }
+{}
+
+/// Outputs that are named by the instances in them say nothing of the names of a tree's files, nor of what is taken out
+/// of these. Two trees are done in runs of all their names, by one task and into one folder, in which the same is
+/// before both. Their files pair in the order of the two walks: the two of a pair have one mode and come to the same,
+/// as those do that are read without fault, of which the same meta elements stay, and that differ only in what is
+/// taken. Then the same is in that folder after both, names too, and the status is the same. Manifest and lines, which
+/// have the old names, are set aside, and so are the modes of new folders. So it is where no call fails that need not.
+pub fn no_name_flows<I: DeviceIn, O: DeviceOut, W: DeviceOut, E: DeviceOut, F>()
+    ensures name { SameBecomes F I.DeviceIn O.DeviceOut E.DeviceOut }
+    ensures run { NoNameFlows F I.DeviceIn O.DeviceOut W.DeviceOut E.DeviceOut }
+    ensures taken { NothingTakenFlows F I.DeviceIn O.DeviceOut W.DeviceOut E.DeviceOut }
 {}
 
 /// Runs that share a tree have each name once. Each relative name is of exactly one of the shares 1 to N of N. Where
