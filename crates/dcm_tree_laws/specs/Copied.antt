@@ -133,9 +133,9 @@ rows_again (of_another earlier v rows none more) = rows_again rows
 rows_again (and_row earlier rest v done rows share so more is) =
     rows_again rows ++ row v.named.name (output_of v.named (again done)) (word (again done).fate)
 
--- of a first run each file was there at its start, and was written, or met its output, or ended without one for what it
--- holds; and a second one, of the same task and share and into the same folder, visits the same names: all is at its end
--- as it was, and its rows are those of the first, with `there` for `written` and `unplaced`
+-- each file of a first run was there at its start, and was written, or met its output, or ended without one for what
+-- it holds; and a second run, of the same task and share and into the same folder, visits the same names: all is at its
+-- end as it was, and its rows are those of the first, with `there` for `written` and `unplaced`
 abbrev pub SecondIsAsItWas : {I O W E : Type 0} → (F : Type 0) → Reader I → Writer O → Writer W → Writer E → Type 0
 SecondIsAsItWas {I} {O} {W} {E} F reader output m errors =
     (h : Host I O) (first second : TreeRun) (path : List ℕ) (begun rebegun : Begun) (opened reopened : F)
