@@ -1,5 +1,6 @@
 -- A run that names outputs by the instances in them leaves the copies that are there, and all as it was where all are.
 use Rattle.std.proofs.Common.{◌≡◌, ◌∙◌, refl, sym, ap, subst, ℕ, List, [], ◌∷◌, ◌++◌, Bool, true, false, Option, Some, None, Result, Ok, Err}
+use Rattle.std.specs.Prelude.{◌≢◌, if◌then◌else◌}
 use Rattle.std.specs.Str.{IsUtf8}
 use Rattle.dcm_devices.specs.Writing.{Writer}
 use Rattle.dcm_files.specs.declared.folders.Found.{Found}
@@ -11,33 +12,38 @@ use Rattle.dcm_walk.specs.declared.visitor.Stopped.{Stopped}
 use Rattle.dcm_walk.specs.declared.visitor.What.{What}
 use Rattle.dcm_walk.specs.declared.visitor.What.TheVariants.{File}
 use Rattle.dcm_cli.specs.Calls.{Reader}
+use Rattle.dcm_trees.specs.declared.fate.Fate.{Fate}
+use Rattle.dcm_trees.specs.declared.fate.Fate.TheVariants as fates
 use Rattle.dcm_trees.specs.declared.file.Done.{Done}
 use Rattle.dcm_trees.specs.declared.part.PartThere.{PartThere}
 use Rattle.dcm_trees.specs.declared.progress.Shared.{Shared}
 use Rattle.dcm_trees.specs.declared.progress.Stop.{Stop}
 use Rattle.dcm_trees.specs.declared.progress.Work.{Work}
 use Rattle.dcm_trees.specs.declared.run.TreeRun.{TreeRun}
+use Rattle.dcm_trees.specs.Fate.{is_written, fate_of, word, has_output}
 use Rattle.dcm_trees.specs.File as files
 use Rattle.dcm_trees.specs.File.{DoesFile, DoesName, is_media_index}
+use Rattle.dcm_trees.specs.Instance.{without_name}
 use Rattle.dcm_trees.specs.Manner.{Manner, manner_of}
 use Rattle.dcm_trees.specs.Run.{Shares}
-use Rattle.dcm_trees.specs.Share.{is_of}
 use Rattle.dcm_trees.specs.Task.{Task, task_of}
 use Rattle.dcm_trees.specs.Work as spec
-use Rattle.dcm_trees.specs.Work.{Progress, VisitsName, progress, visits_of}
+use Rattle.dcm_trees.specs.Work.{Progress, VisitsName, progress, output_of, name_in, visits_of}
 use Rattle.dcm_tree_laws.specs.Again.{sure, OfAll}
-use Rattle.dcm_tree_laws.specs.Copies.{HasCopy, IsAsItWas, IsThereAs, IsDoneAgain, WasDoneAgain, CopyIsThere, AgainIsAsItWas, AgainIsAsItWasOfList}
-use Rattle.dcm_tree_laws.specs.Determined.{FollowsLinks, FilesFit, ComesTo, as_whole, working, working_folders}
+use Rattle.dcm_tree_laws.specs.Copies.{HasCopy, IsAsItWas, IsNamedBy, IsThereAs, IsDoneAgain, EndsUnnamed, IsUnnamedAgain, Stands, of_copy, unnamed, an_index, no_file, fate_again, again, SameRow, WasDoneAgain, StandsThere, AgainIsAsItWas, AgainIsAsItWasOfList}
+use Rattle.dcm_tree_laws.specs.Determined.{FileAt, FollowsLinks, FilesFit, ComesTo, as_whole, working, working_folders}
 use Rattle.dcm_tree_laws.specs.FileSystem.{FileSystem, Tree, Host, place_of, at_path, may_do, folders_do}
 use Rattle.dcm_tree_laws.specs.Laws.{IsOutput, over, part_path}
 use Rattle.dcm_tree_laws.specs.Part.{LeavesPart}
 use Rattle.dcm_tree_laws.specs.Rows.{Visit, noted}
 use Rattle.dcm_tree_laws.specs.Single.{TellsAll}
 use Rattle.dcm_tree_laws.specs.Stays.{IsOfOutput}
-use Rattle.dcm_tree_laws.proofs.CopyLeft.{leads_by, copy_again}
+use Rattle.dcm_tree_laws.proofs.CopyLeft.{leads_by, copy_again, none_other}
+use Rattle.dcm_tree_laws.proofs.CopyMade.{by_name}
 use Rattle.dcm_tree_laws.proofs.Given.{none_some}
 use Rattle.dcm_tree_laws.proofs.Left.{sure_quiet}
 use Rattle.dcm_tree_laws.proofs.Lists.{lines_do}
+use Rattle.dcm_tree_laws.proofs.Looking.{same_ok}
 use Rattle.dcm_tree_laws.proofs.Noted.{walk_noted, list_noted}
 use Rattle.dcm_tree_laws.proofs.OutputsBy.{Leaves, leaves, Still, then_stays, part_of_output}
 use Rattle.dcm_tree_laws.proofs.PartsBy.{visit_leaves}
@@ -45,8 +51,10 @@ use Rattle.dcm_tree_laws.proofs.Quiet.{Quiet, only_quiet, IsClosed, IsSame}
 use Rattle.dcm_tree_laws.proofs.RowsBy.{HasRows, visit_of, visit_rows, no_rows, same_manifest}
 use Rattle.dcm_tree_laws.proofs.Runs.{visit_name}
 use Rattle.dcm_tree_laws.proofs.StillBy.{there_stays, before_all, last_of_all}
+use Rattle.dcm_tree_laws.proofs.UnnamedLeft.{file_unnamed}
 use Rattle.dcm_tree_laws.proofs.Walks.{VisitsDo, walks_do}
-use Rattle.dcm_tree_laws.proofs.Working.{working_also, working_can}
+use Rattle.dcm_tree_laws.proofs.Written.{what_not}
+use Rattle.dcm_tree_laws.proofs.Working.{working_also, working_can, whole_gives}
 use Rattle.dcm_tree_laws.proofs.Works as works
 
 -- ---- what only looks
@@ -115,49 +123,115 @@ done_again {I} {O} {F} h r w e k n mode uids start from before result to after x
     copy_again {F = F} h r w e k n mode uids from before result to after x.tells x.by no_index none (copy_stays h k.task k.part k.output n.path uids start before.now x.none x.still c)
     (leads_by h k.part k.output start uids c.made x.follows x.fits x.text x.none c.there c.same) does gone
 
--- it has its row
-same_done : (result : Result Done PartThere) (one other : Done) → result ≡ Ok one → result ≡ Ok other → one ≡ other
-same_done result one other a b = cc
+-- ---- its row
 
-name_again : {I O F E : Type 0} (h : Host I O) (r : Reader I) (w : Writer O) (e : Writer E) (k : Manner) (n : Named) (what : What) (mode : ℕ) (uids : Uids) (start : Tree) (from : E) (before : FileSystem) (done : Done) (to : E) (after : FileSystem) → Known h w k start before.now
-    → at_path h before.now k.part ≡ None → what ≡ File mode → is_media_index n.relative ≡ false → HasCopy h k.task k.output start n.path uids → DoesName (working {F = F} h r w e) k n what from before (Ok done) to after → after.unremoved ≡ false → IsThereAs uids done
-name_again {I} {O} {F} h r w e k n what mode uids start from before done to after x none is no_index c does gone =
-    let again : IsDoneAgain e n uids c.verdict from before (Ok done) to after =
-    done_again {F = F} h r w e k n mode uids start from before (Ok done) to after x none no_index c (subst (λ (y : What). DoesName (working {F = F} h r w e) k n y from before (Ok done) to after) is does) gone in
-    subst (IsThereAs uids) (same_done (Ok done) again.done done again.row refl) again.there
+pub written_again : (fate : Fate) → is_written fate ≡ true → fate_again fate ≡ fates.There
+written_again fates.Written e = refl
+written_again fates.Unplaced e = refl
+written_again fates.There e = absurd (cc)
+written_again fates.Occupied e = absurd (cc)
+written_again fates.LeftOut e = absurd (cc)
+written_again fates.MediaIndex e = absurd (cc)
+written_again fates.Unread e = absurd (cc)
+written_again fates.Unwritten e = absurd (cc)
+written_again fates.Refused e = absurd (cc)
+written_again fates.Pixels e = absurd (cc)
+written_again fates.Unnamed e = absurd (cc)
 
--- where its copy is there, if it is a file
-abbrev CopyThere : {I O : Type 0} → Host I O → Manner → Tree → Named → What → Type 0
-CopyThere h k t n what = (mode : ℕ) → what ≡ File mode → is_media_index n.relative ≡ false → (uids : Uids) × HasCopy h k.task k.output t n.path uids
+other_again : (fate : Fate) → is_written fate ≡ false → fate_again fate ≡ fate
+other_again fates.Written e = absurd (cc)
+other_again fates.Unplaced e = absurd (cc)
+other_again fates.There e = refl
+other_again fates.Occupied e = refl
+other_again fates.LeftOut e = refl
+other_again fates.MediaIndex e = refl
+other_again fates.Unread e = refl
+other_again fates.Unwritten e = refl
+other_again fates.Refused e = refl
+other_again fates.Pixels e = refl
+other_again fates.Unnamed e = refl
+
+-- of a file that is there
+cell_there : (n : Named) (done : Done) (uids : Uids) → done.fate ≡ fates.There → IsNamedBy uids done → output_of n done ≡ Some (instance_name uids)
+cell_there n done uids is named =
+    ap (λ (f : Fate). if has_output f then Some (name_in n.relative done.instance) else None) is
+    ∙ ap Some (by_name n.relative done.instance named.relative (instance_name uids) named.instance_is named.relative_is)
+
+copy_row : (n : Named) (done first : Done) (uids : Uids) → IsThereAs uids done → IsNamedBy uids first → fate_again first.fate ≡ fates.There → SameRow n done (again first)
+copy_row n done first uids there named its =
+    record {
+      output_is = cell_there n done uids there.fate_is there.named ∙ sym (cell_there n (again first) uids its (record { relative = named.relative; instance_is = named.instance_is; relative_is = named.relative_is }));
+      word_is = ap word there.fate_is ∙ sym (ap word its);
+    }
+
+-- of a name without an output
+nameless_row : (n : Named) (done first : Done) (fate : Fate) → done ≡ without_name fate → first ≡ without_name fate → is_written fate ≡ false → SameRow n done (again first)
+nameless_row n done first fate is was not =
+    let same : done ≡ again first = is ∙ ap without_name (sym (other_again fate not)) ∙ ap again (sym was) in
+    record { output_is = ap (output_of n) same; word_is = ap (λ (d : Done). word d.fate) same }
+
+-- what becomes of a name of which something stands
+record StandsAgain (n : Named) (first : Done) (before : FileSystem) (result : Result Done PartThere) (after : FileSystem) : Type 0 where
+  same : IsAsItWas before.now after.now
+  row : (done : Done) → result ≡ Ok done → SameRow n done (again first)
 
 same_now : (before after : FileSystem) → after ≡ before → IsAsItWas before.now after.now
 same_now before after is = subst (λ (s : FileSystem). IsAsItWas before.now s.now) (sym is) (as_always before.now)
 
-kept_not : (b : Bool) → b ≡ true → b ≡ false → ⊥
-kept_not b e f = absurd (cc)
+nameless_again : (n : Named) (first : Done) (fate : Fate) (before : FileSystem) (result : Result Done PartThere) (after : FileSystem) → IsAsItWas before.now after.now → result ≡ Ok (without_name fate) → first ≡ without_name fate → is_written fate ≡ false → StandsAgain n first before result after
+nameless_again n first fate before result after same is was not = record { same = same; row = λ done ok. nameless_row n done first fate (same_ok result (without_name fate) done is ok) was not }
 
-file_same : {I O F E : Type 0} (h : Host I O) (r : Reader I) (w : Writer O) (e : Writer E) (k : Manner) (n : Named) (mode : ℕ) (start : Tree) (from : E) (before : FileSystem) (result : Result Done PartThere) (to : E) (after : FileSystem) → Known h w k start before.now → at_path h before.now k.part ≡ None
-    → CopyThere h k start n (File mode) → DoesFile (working {F = F} h r w e) k n mode from before result to after → after.unremoved ≡ false → IsAsItWas before.now after.now
-file_same h r w e k n mode start from before result to after x none there (files.an_index index told is same) gone = same_now before after same
-file_same h r w e k n mode start from before result to after x none there (files.keeps_name became index kept does is) gone = absurd (kept_not k.keeps_names kept x.by)
-file_same {I} {O} {F} h r w e k n mode start from before result to after x none there (files.by_instance index not does) gone =
-    let c = there mode refl index in
-    (done_again {F = F} h r w e k n mode c.0 start from before result to after x none index c.1 (files.a_file mode refl (files.by_instance index not does)) gone).same
+true_false : {A : Type 0} (b : Bool) → b ≡ true → b ≡ false → A
+true_false b e f = absurd (cc)
 
-name_same : {I O F E : Type 0} (h : Host I O) (r : Reader I) (w : Writer O) (e : Writer E) (k : Manner) (n : Named) (what : What) (start : Tree) (from : E) (before : FileSystem) (result : Result Done PartThere) (to : E) (after : FileSystem) → Known h w k start before.now → at_path h before.now k.part ≡ None
-    → CopyThere h k start n what → DoesName (working {F = F} h r w e) k n what from before result to after → after.unremoved ≡ false → IsAsItWas before.now after.now
-name_same {I} {O} {F} h r w e k n what start from before result to after x none there (files.a_file mode is does) gone =
-    file_same {F = F} h r w e k n mode start from before result to after x none (subst (CopyThere h k start n) is there) does gone
-name_same h r w e k n what start from before result to after x none there (files.no_file other told is same) gone = same_now before after same
+-- a file as it was at the start
+abbrev pub file_still : {I O : Type 0} (h : Host I O) (part path : List ℕ) (start now : Tree) → at_path h start part ≡ None → Still h part start now → FileAt h Followed start path → FileAt h Followed now path
+file_still h part path start now none still f = record {
+  file = f.file;
+  is = still.there (h.leads Followed path) f.file (apart_by start (h.leads Followed path) (place_of h part) f.file none f.is) f.is;
+  kind = f.kind;
+}
+
+file_again : {I O F E : Type 0} (h : Host I O) (r : Reader I) (w : Writer O) (e : Writer E) (k : Manner) (n : Named) (what : What) (first : Done) (start : Tree) (mode : ℕ) (from : E) (before : FileSystem) (result : Result Done PartThere) (to : E) (after : FileSystem) → Known h w k start before.now
+    → at_path h before.now k.part ≡ None → Stands h k.task k.output start (visit_of n what) first → what ≡ File mode → DoesFile (working {F = F} h r w e) k n mode from before result to after → after.unremoved ≡ false → StandsAgain n first before result after
+file_again {I} {O} {F} h r w e k n what first start mode from before result to after x none (of_copy other is index written c) file does gone =
+    let again : IsDoneAgain e n c.uids c.copy.verdict from before result to after =
+    done_again {F = F} h r w e k n mode c.uids start from before result to after x none index c.copy (files.a_file mode refl does) gone in
+    record { same = again.same; row = λ done ok. copy_row n done first c.uids (subst (IsThereAs c.uids) (same_ok result done again.done ok again.row) again.there) c.named written }
+file_again {I} {O} {F} h r w e k n what first start mode from before result to after x none (unnamed other is index f ends not nameless) file does gone =
+    let now : FileAt h Followed before.now n.path = file_still h k.part n.path start before.now x.none x.still f.file in
+    let u : IsUnnamedAgain first.fate before result after =
+    file_unnamed F h r w e (whole_gives h r w x.tells) k x.text (x.follows k.part (none_other h start k.part x.none)) n mode first.fate from before result to after x.by index none f.text now
+    (subst (λ (b : List ℕ). EndsUnnamed k.task b first.fate) (sym (x.still.bytes (h.leads Followed n.path) f.file.file (apart_by start (h.leads Followed n.path) (place_of h k.part) f.file.file x.none f.file.is) f.file.is)) ends) gone does in
+    nameless_again n first first.fate before result after u.same u.row nameless not
+file_again h r w e k n what first start mode from before result to after x none (an_index other is index d) file (files.an_index was told ok same) gone = nameless_again n first fates.MediaIndex before result after (same_now before after same) ok d refl
+file_again h r w e k n what first start mode from before result to after x none (an_index other is index d) file (files.keeps_name became no_index kept does ok) gone = true_false (is_media_index n.relative) index no_index
+file_again h r w e k n what first start mode from before result to after x none (an_index other is index d) file (files.by_instance no_index not does) gone = true_false (is_media_index n.relative) index no_index
+file_again h r w e k n what first start mode from before result to after x none (no_file other d) file does gone = absurd (other mode file)
+
+-- what is no file has no output
+no_file_first : {I O : Type 0} (h : Host I O) (task : Task) (output : List ℕ) (t : Tree) (n : Named) (what : What) (first : Done) → ((mode : ℕ) → what ≢ File mode) → Stands h task output t (visit_of n what) first → first ≡ without_name (fate_of what)
+no_file_first h task output t n what first other (of_copy mode is index written c) = absurd (other mode is)
+no_file_first h task output t n what first other (unnamed mode is index f ends not nameless) = absurd (other mode is)
+no_file_first h task output t n what first other (an_index mode is index d) = absurd (other mode is)
+no_file_first h task output t n what first other (no_file others d) = d
+
+no_file_again : (n : Named) (what : What) (first : Done) (before : FileSystem) (result : Result Done PartThere) (after : FileSystem) → ((mode : ℕ) → what ≢ File mode) → after ≡ before → result ≡ Ok (without_name (fate_of what)) → first ≡ without_name (fate_of what) → StandsAgain n first before result after
+no_file_again n what first before result after other same ok was = nameless_again n first (fate_of what) before result after (same_now before after same) ok was (what_not what)
+
+name_again : {I O F E : Type 0} (h : Host I O) (r : Reader I) (w : Writer O) (e : Writer E) (k : Manner) (n : Named) (what : What) (first : Done) (start : Tree) (from : E) (before : FileSystem) (result : Result Done PartThere) (to : E) (after : FileSystem) → Known h w k start before.now → at_path h before.now k.part ≡ None
+    → Stands h k.task k.output start (visit_of n what) first → DoesName (working {F = F} h r w e) k n what from before result to after → after.unremoved ≡ false → StandsAgain n first before result after
+name_again {I} {O} {F} h r w e k n what first start from before result to after x none stands (files.a_file mode is does) gone = file_again {F = F} h r w e k n what first start mode from before result to after x none stands is does gone
+name_again h r w e k n what first start from before result to after x none stands (files.no_file other told ok same) gone = no_file_again n what first before result after other same ok (no_file_first h k.task k.output start n what first other stands)
 
 visit_same : {I O F W E : Type 0} (h : Host I O) (r : Reader I) (w : Writer O) (e : Writer E) (m : Writer W) (shared : Shared) (start : Tree) (from : Progress W) (told_before : E) (before : FileSystem) (n : Named) (what : What) (result : Result (Unit {0}) Stopped) (to : Progress W) (told : E)
-    (after : FileSystem) → Known h w (manner_of shared.manner) start before.now → at_path h before.now (manner_of shared.manner).part ≡ None → (is_of shared.part.number shared.part.count n.relative ≡ true → CopyThere h (manner_of shared.manner) start n what)
+    (after : FileSystem) → Known h w (manner_of shared.manner) start before.now → at_path h before.now (manner_of shared.manner).part ≡ None → StandsThere h (manner_of shared.manner).task (manner_of shared.manner).output start shared (visit_of n what)
     → VisitsName (working {F = F} h r w e) m shared from told_before before n what result to told after → after.unremoved ≡ false → IsAsItWas before.now after.now
-visit_same h r w e m shared start from told_before before n what result to told after x none there (spec.of_another not is t same ok) gone = same_now before after same
-visit_same {I} {O} {F} h r w e m shared start from told_before before n what result to told after x none there (spec.was_done done mid share does ends) gone =
-    name_same {F = F} h r w e (manner_of shared.manner) n what start told_before before (Ok done) mid after x none (there share) does gone
-visit_same {I} {O} {F} h r w e m shared start from told_before before n what result to told after x none there (spec.part_there p s share does is ok) gone =
-    name_same {F = F} h r w e (manner_of shared.manner) n what start told_before before (Err p) told after x none (there share) does gone
+visit_same h r w e m shared start from told_before before n what result to told after x none stands (spec.of_another not is t same ok) gone = same_now before after same
+visit_same {I} {O} {F} h r w e m shared start from told_before before n what result to told after x none stands (spec.was_done done mid share does ends) gone =
+    (name_again {F = F} h r w e (manner_of shared.manner) n what (stands share).0 start told_before before (Ok done) mid after x none (stands share).1 does gone).same
+visit_same {I} {O} {F} h r w e m shared start from told_before before n what result to told after x none stands (spec.part_there p s share does is ok) gone =
+    (name_again {F = F} h r w e (manner_of shared.manner) n what (stands share).0 start told_before before (Err p) told after x none (stands share).1 does gone).same
 
 -- ---- all names
 
@@ -177,7 +251,7 @@ record Kept {I O W : Type 0} (h : Host I O) (w : Writer O) (start : Tree) (m : W
   still : Still h (manner_of shared.manner).part start s.now
   nothing : s.unremoved ≡ false → at_path h s.now (manner_of shared.manner).part ≡ None
   rows : s.unremoved ≡ false → stop ≡ None → HasRows m (WasDoneAgain h (manner_of shared.manner).task (manner_of shared.manner).output start) shared headed visits manifest
-  same : s.unremoved ≡ false → OfAll (CopyIsThere h (manner_of shared.manner).task (manner_of shared.manner).output start shared) visits → IsAsItWas start s.now
+  same : s.unremoved ≡ false → OfAll (StandsThere h (manner_of shared.manner).task (manner_of shared.manner).output start shared) visits → IsAsItWas start s.now
 
 record Good {I O W E : Type 0} (h : Host I O) (w : Writer O) (start : Tree) (m : Writer W) (shared : Shared) (headed : W) (x : (Work W × E) × List Visit) (s : FileSystem) : Type 0 where
   shares : x.0.0.shared ≡ shared
@@ -211,20 +285,20 @@ visits_good {I} {O} {F} {W} {E} h start r w e m shared headed from before n what
       fits = kept.goes.fits;
       still = kept.still;
     } in
-    let then : Kept h w start m headed to.1 to.0.0.stop to.0.0.manifest after here = record {
+    let next : Kept h w start m headed to.1 to.0.0.stop to.0.0.manifest after here = record {
       goes = kept.goes;
       still = then_stays h k.part k.output start before.now after.now kept.still left.stays;
       nothing = λ gone. (part gone).1 ∙ kept.nothing (part gone).0;
       rows = λ gone stop. visit_rows (working {F = F} h r w e) m here headed (WasDoneAgain h k.task k.output start) (WasDoneAgain h k.task k.output start) (λ x done so. so) _ from.0.1 before n what result _ to.0.1 after
-          (λ done mid does mode uids is no_index c. name_again {F = F} h r w e k n what mode uids start from.0.1 before done mid after known (kept.nothing (part gone).0) is no_index c does gone) from.1 to.1 v.1 v.0.0 stop
+          (λ done mid does first stands. (name_again {F = F} h r w e k n what first start from.0.1 before (Ok done) mid after known (kept.nothing (part gone).0) stands does gone).row done refl) from.1 to.1 v.1 v.0.0 stop
           (λ none. kept.rows (part gone).0 none);
       same = λ gone all.
-          let each : OfAll (CopyIsThere h k.task k.output start here) (from.1 ++ visit_of n what ∷ []) = subst (OfAll (CopyIsThere h k.task k.output start here)) v.1 all in
-          then_as start before.now after.now (kept.same (part gone).0 (before_all (CopyIsThere h k.task k.output start here) from.1 (visit_of n what) each))
+          let each : OfAll (StandsThere h k.task k.output start here) (from.1 ++ visit_of n what ∷ []) = subst (OfAll (StandsThere h k.task k.output start here)) v.1 all in
+          then_as start before.now after.now (kept.same (part gone).0 (before_all (StandsThere h k.task k.output start here) from.1 (visit_of n what) each))
           (visit_same {F = F} h r w e m here start _ from.0.1 before n what result _ to.0.1 after known (kept.nothing (part gone).0)
-          (λ share mode is no_index. last_of_all (CopyIsThere h k.task k.output start here) from.1 (visit_of n what) each mode is share no_index) v.0.0 gone);
+          (last_of_all (StandsThere h k.task k.output start here) from.1 (visit_of n what) each) v.0.0 gone);
     } in
-    record { shares = v.0.1 ∙ good.shares; quiet = left.none; kept = subst (Kept h w start m headed to.1 to.0.0.stop to.0.0.manifest after) good.shares then }
+    record { shares = v.0.1 ∙ good.shares; quiet = left.none; kept = subst (Kept h w start m headed to.1 to.0.0.stop to.0.0.manifest after) good.shares next }
 
 -- what a run shares
 goes_on : {I O : Type 0} (h : Host I O) (w : Writer O) (start : Tree) (run : TreeRun) (part : List ℕ) (shared : Shared) → Shares run part shared → part ≡ part_path run → TellsAll h w → run.options.keeps_names ≡ false → IsUtf8 (part_path run) → at_path h start (part_path run) ≡ None
@@ -269,7 +343,7 @@ again_as_it_was {I} {O} {F} {W} {E} r w m e h run path begun opened headed from 
       walks = walk.1;
       rows = rows.rows;
       manifest = same_manifest m left v.last.manifest headed rows.text v.left_is rows.manifest_is;
-      same = subst (λ (k : Manner). OfAll (CopyIsThere h k.task k.output before.now shared) walk.0 → IsAsItWas before.now after.now) v.begins.shares.manner (good.kept.same gone);
+      same = subst (λ (k : Manner). OfAll (StandsThere h k.task k.output before.now shared) walk.0 → IsAsItWas before.now after.now) v.begins.shares.manner (good.kept.same gone);
     }
 
 pub again_by_list : {I O F W E : Type 0} (r : Reader I) (w : Writer O) (m : Writer W) (e : Writer E) → AgainIsAsItWasOfList F r w m e
@@ -289,5 +363,5 @@ again_by_list {I} {O} {F} {W} {E} r w m e h run list begun input headed from bef
       walks = walk.1;
       rows = rows.rows;
       manifest = same_manifest m left v.last.manifest headed rows.text v.left_is rows.manifest_is;
-      same = subst (λ (k : Manner). OfAll (CopyIsThere h k.task k.output before.now shared) walk.0 → IsAsItWas before.now after.now) v.begins.shares.manner (good.kept.same gone);
+      same = subst (λ (k : Manner). OfAll (StandsThere h k.task k.output before.now shared) walk.0 → IsAsItWas before.now after.now) v.begins.shares.manner (good.kept.same gone);
     }

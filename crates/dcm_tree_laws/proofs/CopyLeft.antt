@@ -132,7 +132,7 @@ still_whole h part held before now x = record {
 
 -- ---- the part is removed
 
-removed : {I O : Type 0} (h : Host I O) (r : Reader I) (w : Writer O) (part : List ℕ) (before after : FileSystem) → IsUtf8 part → after.unremoved ≡ false → RemovesPart (working_may h r w (may_do h)) part before after → Removes h part before after
+pub removed : {I O : Type 0} (h : Host I O) (r : Reader I) (w : Writer O) (part : List ℕ) (before after : FileSystem) → IsUtf8 part → after.unremoved ≡ false → RemovesPart (working_may h r w (may_do h)) part before after → Removes h part before after
 removed h r w part before after text gone (parts.no_text t same) = absurd (t text)
 removed h r w part before after text gone (parts.removed (Ok u) t call) = call
 removed h r w part before after text gone (parts.removed (Err e) t call) = true_false after.unremoved (ap (λ (s : FileSystem). s.unremoved) call) gone
@@ -181,7 +181,7 @@ no_lines name naming same is alike = ap (λ (x : Naming). naming_lines name x sa
 fate_there : (naming : Naming) (fate : Fate) (same : Bool) → naming ≡ NotFree places.There → same ≡ true → naming_fate naming fate same ≡ There
 fate_there naming fate same is alike = ap (λ (x : Naming). naming_fate x fate same) is ∙ ap (λ (b : Bool). naming_fate (NotFree places.There) fate b) alike
 
-no_output : {A O : Type 0} (cause : NoPart) (output : O) → Err cause ≡ Ok output → A
+pub no_output : {A O : Type 0} (cause : NoPart) (output : O) → Err cause ≡ Ok output → A
 no_output cause output e = absurd (cc)
 
 no_job_by : {A : Type 0} (task : Task) (held : List ℕ) (cause : NoDays) (job : Job) → IsJobOf task held job → JobIs task held (Err cause) → A
@@ -398,7 +398,7 @@ copy_again h r w e m n mode uids from before result to after tells by no_index n
 pub none_other : {I O : Type 0} (h : Host I O) (t : Tree) (path : List ℕ) → at_path h t path ≡ None → (f : Found) → at_path h t path ≡ Some f → f.kind ≢ kinds.Other
 none_other h t path none f is kind = none_some (at_path h t path) f none is
 
-no_link : (o : Option Found) (f g : Found) → o ≡ Some f → f.kind ≡ kinds.File → o ≡ Some g → g.kind ≢ kinds.Other
+pub no_link : (o : Option Found) (f g : Found) → o ≡ Some f → f.kind ≡ kinds.File → o ≡ Some g → g.kind ≢ kinds.Other
 no_link o f g is file at other = file_other (sym file ∙ ap (λ (x : Found). x.kind) (same_found o f g is at) ∙ other)
 
 pub leads_by : {I O : Type 0} (h : Host I O) (part output : List ℕ) (t : Tree) (uids : Uids) (made : List ℕ) → FollowsLinks h t → FilesFit t → IsUtf8 part → at_path h t part ≡ None → (there : IsThere h output (instance_name uids) t) → t.bytes (number_of there.file.found) ≡ made

@@ -101,12 +101,12 @@ true_false : {A : Type 0} (b : Bool) → b ≡ true → b ≡ false → A
 true_false b e f = absurd (cc)
 
 -- the part is made
-record NewPart {I O : Type 0} (h : Host I O) (part : List ℕ) (mode : ℕ) (before : FileSystem) (output : O) (after : FileSystem) : Type 0 where
-  text : IsUtf8 part
-  makes : MakesFile h part mode before after
-  new : h.took output ≡ []
+pub record NewPart {I O : Type 0} (h : Host I O) (part : List ℕ) (mode : ℕ) (before : FileSystem) (output : O) (after : FileSystem) : Type 0 where
+  pub text : IsUtf8 part
+  pub makes : MakesFile h part mode before after
+  pub new : h.took output ≡ []
 
-new_part : {I O F : Type 0} (h : Host I O) (part : List ℕ) (mode : ℕ) (before : FileSystem) (output : O) (after : FileSystem) → MakesPart (working_folders h (sure (folders_do {F = F} h))) part mode before (Ok output) after → NewPart h part mode before output after
+pub new_part : {I O F : Type 0} (h : Host I O) (part : List ℕ) (mode : ℕ) (before : FileSystem) (output : O) (after : FileSystem) → MakesPart (working_folders h (sure (folders_do {F = F} h))) part mode before (Ok output) after → NewPart h part mode before output after
 new_part h part mode before output after (parts.no_text t is same) = absurd (cc)
 new_part h part mode before output after (parts.made o t call is) = record { text = t; makes = call.0.0; new = ap h.took (same_ok (Ok output) o.device output is refl) ∙ call.0.1 }
 new_part h part mode before output after (parts.is_there e t call k is) = absurd (cc)
@@ -204,7 +204,7 @@ new_as h One Other part output path start now less new = record {
   way = new.way;
 }
 
-by_name : (relative : List ℕ) (found : Option (ArrayVec ℕ)) (items : ArrayVec ℕ) (name : List ℕ) → found ≡ Some items → items.items ≡ name → name_in relative found ≡ name
+pub by_name : (relative : List ℕ) (found : Option (ArrayVec ℕ)) (items : ArrayVec ℕ) (name : List ℕ) → found ≡ Some items → items.items ≡ name → name_in relative found ≡ name
 by_name relative found items name is named = ap (name_in relative) is ∙ named
 
 pub copy_made : {I O F E : Type 0} (h : Host I O) (r : Reader I) (w : Writer O) (e : Writer E) (m : Manner) (n : Named) (what : What) (from : E) (before : FileSystem) (done : Done) (to : E) (after : FileSystem) → TellsAll h w → m.keeps_names ≡ false → before.written ≡ None → IsOfOutput m.output m.part

@@ -82,7 +82,7 @@ has_days task bytes job stop (of_all t) none = absurd (not_same job none.options
 has_days task bytes job stop (of_days options reports key days t reads is) none =
     absurd (never_refused days stop (same_key_reads key none.key bytes (Days days) (Refused stop) (same_key options none.options reports none.reports key none.key (sym t ∙ none.task_is)) reads none.reads))
 
-no_days_once : (task : Task) (bytes : List ℕ) (a b : FaultAt) → HasNoDays task bytes a → HasNoDays task bytes b → a ≡ b
+pub no_days_once : (task : Task) (bytes : List ℕ) (a b : FaultAt) → HasNoDays task bytes a → HasNoDays task bytes b → a ≡ b
 no_days_once task bytes a b x y =
     same_stop a b (same_key_reads x.key y.key bytes (Refused a) (Refused b) (same_key x.options y.options x.reports y.reports x.key y.key (sym x.task_is ∙ y.task_is)) x.reads y.reads)
 

@@ -46,6 +46,10 @@ pub mod Working
 pub mod CopyLeft
 pub mod CopiesBy
 pub mod CopyMade
+pub mod CopyMet
+pub mod UnnamedLeft
+pub mod UnnamedMade
+pub mod MetMade
 pub mod CopiesMade
 pub mod CopiedBy
 pub mod Alike

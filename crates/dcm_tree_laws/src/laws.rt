@@ -2,8 +2,9 @@
 ghost use Rattle.dcm_trees.specs.World.{world};
 ghost use Rattle.dcm_tree_laws.specs.Again.{AgainIsStill, AgainIsStillOfList, ThereIsLeft};
 ghost use Rattle.dcm_tree_laws.specs.Again.{MadeIsThere, MadeIsThereOfList};
-ghost use Rattle.dcm_tree_laws.specs.Copied.{CopiesAreThere, CopiesAreThereOfList, OneCopy, SecondIsAsItWas};
-ghost use Rattle.dcm_tree_laws.specs.Copies.{CopyIsLeft, AgainIsAsItWas, AgainIsAsItWasOfList};
+ghost use Rattle.dcm_tree_laws.specs.Copied.{CopiesAreThere, CopiesAreThereOfList};
+ghost use Rattle.dcm_tree_laws.specs.Copied.{SecondIsAsItWas, SecondIsAsItWasOfList};
+ghost use Rattle.dcm_tree_laws.specs.Copies.{CopyIsLeft, UnnamedIsLeft, AgainIsAsItWas, AgainIsAsItWasOfList};
 ghost use Rattle.dcm_tree_laws.specs.Determined.{OneEnd, EndIsAnswer, OneInstance};
 ghost use Rattle.dcm_tree_laws.specs.Distinct.{OutputsAreDistinct, OutputsAreDistinctOfList};
 ghost use Rattle.dcm_tree_laws.specs.Flows.{NoNameFlows, SameBecomes};
@@ -95,16 +96,18 @@ pub fn bytes_say_the_end()
     ensures instance { OneInstance }
 {}
 
-/// A run that names outputs by the instances in them does a file again whose output is there, and leaves it. Its row is
-/// `there`, nothing is told but what its job came to, and nothing is changed once the part is removed. Where the
-/// outputs of all files of its share are there, as after a first run that wrote them, all is at the end as it was. So
-/// it is where no call fails that need not.
+/// A run that names outputs by the instances in them does each file again. Where its output is there, with the same
+/// bytes, that is left, the row is `there`, and only what the job came to is told. What has no job, or is refused, or
+/// names no instance, ends so again. Where that is so of all names, all is at the end as it was. So it is after a first
+/// run each of whose files was written, or was there, or ended so. The rows are those of the first run, but `there` for
+/// `written` and `unplaced`. It is said where no call fails that need not.
 pub fn again_is_as_it_was<I: DeviceIn, O: DeviceOut, W: DeviceOut, E: DeviceOut, F>()
     ensures made { CopiesAreThere F I.DeviceIn O.DeviceOut W.DeviceOut E.DeviceOut }
     ensures made_by_list { CopiesAreThereOfList F I.DeviceIn O.DeviceOut W.DeviceOut E.DeviceOut }
-    ensures one { OneCopy I.DeviceIn O.DeviceOut }
     ensures twice { SecondIsAsItWas F I.DeviceIn O.DeviceOut W.DeviceOut E.DeviceOut }
+    ensures twice_by_list { SecondIsAsItWasOfList F I.DeviceIn O.DeviceOut W.DeviceOut E.DeviceOut }
     ensures name { CopyIsLeft F I.DeviceIn O.DeviceOut E.DeviceOut }
+    ensures no_name { UnnamedIsLeft F I.DeviceIn O.DeviceOut E.DeviceOut }
     ensures folder { AgainIsAsItWas F I.DeviceIn O.DeviceOut W.DeviceOut E.DeviceOut }
     ensures list { AgainIsAsItWasOfList F I.DeviceIn O.DeviceOut W.DeviceOut E.DeviceOut }
 {}
