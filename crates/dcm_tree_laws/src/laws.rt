@@ -100,8 +100,8 @@ pub fn bytes_say_the_end()
 /// A run that names outputs by the instances in them does each file again. Where its output is there, with the same
 /// bytes, that is left, the row is `there`, and only what the job came to is told. What has no job, or is refused, or
 /// names no instance, ends so again. Where that is so of all names, all is at the end as it was. So it is after a first
-/// run that met nothing at the names of its outputs, and the rows are those of that, but `there` for `written` and
-/// `unplaced`. It is said where no call fails that need not.
+/// run each of whose files was written, or was there, or ended so. The rows are those of the first run, but `there` for
+/// `written` and `unplaced`. It is said where no call fails that need not.
 pub fn again_is_as_it_was<I: DeviceIn, O: DeviceOut, W: DeviceOut, E: DeviceOut, F>()
     ensures made { CopiesAreThere F I.DeviceIn O.DeviceOut W.DeviceOut E.DeviceOut }
     ensures made_by_list { CopiesAreThereOfList F I.DeviceIn O.DeviceOut W.DeviceOut E.DeviceOut }
@@ -113,12 +113,12 @@ pub fn again_is_as_it_was<I: DeviceIn, O: DeviceOut, W: DeviceOut, E: DeviceOut,
     ensures list { AgainIsAsItWasOfList F I.DeviceIn O.DeviceOut W.DeviceOut E.DeviceOut }
 {}
 
-/// Outputs that are named by the instances in them say nothing of the names of a tree's files, nor of what is taken out
-/// of these. Two trees are done in runs of all their names, by one task and into one folder, in which the same is
-/// before both. Their files pair in the order of the two walks: the two of a pair have one mode and come to the same,
-/// as those do that are read without fault, of which the same meta elements stay, and that differ only in what is
-/// taken. Then the same is in that folder after both, names too, and the status is the same. Manifest and lines, which
-/// have the old names, are set aside, and so are the modes of new folders. So it is where no call fails that need not.
+/// Outputs that instances name tell neither the names of files nor what is taken out of these. Two trees are done in
+/// runs of all their names, by one task and into one folder, in which the same is before both. Their files pair in the
+/// order of the two walks: the two of a pair have one mode and come to the same, as those do that are read without
+/// fault, of which the same meta elements stay, and that differ only in what is taken. Then the same is in that folder
+/// after both, names too, and the status is the same. Manifest and lines, which have the old names, are set aside, and
+/// so are the modes of new folders. So it is where no call fails that need not.
 pub fn no_name_flows<I: DeviceIn, O: DeviceOut, W: DeviceOut, E: DeviceOut, F>()
     ensures name { SameBecomes F I.DeviceIn O.DeviceOut E.DeviceOut }
     ensures run { NoNameFlows F I.DeviceIn O.DeviceOut W.DeviceOut E.DeviceOut }
