@@ -53,6 +53,7 @@ pub mod FatesAs
 pub mod StagesAs
 pub mod Staged
 pub mod ElseBy
+pub mod ToldBy
 pub mod CopyLeft
 pub mod CopiesBy
 pub mod CopyMade

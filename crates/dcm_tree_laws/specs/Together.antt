@@ -11,21 +11,26 @@ use Rattle.dcm_instance.specs.Uids.{Uids, instance_name}
 use Rattle.dcm_walk.specs.Folder.{WalksFolder}
 use Rattle.dcm_walk.specs.List.{WalksList}
 use Rattle.dcm_walk.specs.Names.{PATH_LIMIT, below}
+use Rattle.dcm_walk.specs.Visits.{Named}
 use Rattle.dcm_walk.specs.declared.visitor.What.TheVariants.{File}
 use Rattle.dcm_cli.specs.Calls.{Reader}
 use Rattle.dcm_cli.specs.declared.ending.Verdict.{Verdict}
 use Rattle.dcm_trees.specs.declared.beginning.Begun.{Begun}
+use Rattle.dcm_trees.specs.declared.fate.Fate.{Fate}
+use Rattle.dcm_trees.specs.declared.fate.Fate.TheVariants as fates
+use Rattle.dcm_trees.specs.declared.file.Done.{Done}
 use Rattle.dcm_trees.specs.declared.run.TreeRun.{TreeRun}
 use Rattle.dcm_trees.specs.Fate.{is_written}
-use Rattle.dcm_trees.specs.File.{is_media_index}
+use Rattle.dcm_trees.specs.File.{DoesName, is_media_index}
 use Rattle.dcm_trees.specs.Lines.{verdict_fate}
+use Rattle.dcm_trees.specs.Manner.{Manner}
 use Rattle.dcm_trees.specs.Run.{part_name}
 use Rattle.dcm_trees.specs.Task.{Task, task_of}
 use Rattle.dcm_trees.specs.Tree.{VisitsAll, VisitsListed}
 use Rattle.dcm_trees.specs.Work.{visits_of}
 use Rattle.dcm_trees.specs.World.{World}
 use Rattle.dcm_tree_laws.specs.Again.{OfAll}
-use Rattle.dcm_tree_laws.specs.Determined.{FileAt, ComesTo, working}
+use Rattle.dcm_tree_laws.specs.Determined.{FileAt, ComesTo, FileEnd, was_done, no_job, EndsAs, working}
 use Rattle.dcm_tree_laws.specs.FileSystem.{FileSystem, Tree, Host, number_of, place_of, at_path}
 use Rattle.dcm_tree_laws.specs.Laws.{part_path}
 use Rattle.dcm_tree_laws.specs.Rows.{Visit, noted}
@@ -199,6 +204,30 @@ PartsAreOne {I} {O} {W} {E} F reader output m errors =
     → Runs F h reader output m errors true task folder (AreBeside h folder first x bytes) count first numbers after
     → OneRun F h reader output m errors true task folder (AreBeside h folder first x bytes) 1 1 first alone
     → IsSameAt after alone (place_of h (below folder x.named.relative))
+
+-- ---- what becomes of them
+
+-- what becomes of a file that ends so
+abbrev pub end_fate : FileEnd → Fate
+end_fate (was_done out verdict) = verdict_fate verdict
+end_fate (no_job stop) = fates.Refused
+
+-- what became of a file that gives its output its name is what its bytes end as
+pub record IsToldBy (task : Task) (bytes : List ℕ) (done : Done) : Type 0 where
+  pub end : FileEnd
+  pub ends : EndsAs task bytes end
+  pub is : done ≡ record { fate = end_fate end; instance = None }
+
+-- so it is of a file whose output is free, in whatever run it is done, and when
+abbrev pub FateIsTold : {I O E : Type 0} → (F : Type 0) → Reader I → Writer O → Writer E → Type 0
+FateIsTold {I} {O} {E} F reader output errors =
+    (h : Host I O) (m : Manner) (number : ℕ) (n : Named) (mode : ℕ) (bytes : List ℕ) (from : E) (before : FileSystem)
+    (done : Done) (to : E) (after : FileSystem) → TellsAll h output → m.keeps_names ≡ true
+    → m.part ≡ below m.output (part_name number) → before.written ≡ None
+    → IsNameOf h m.output before.now (record { named = n; what = File mode }) mode bytes
+    → IsFree h m.output n.relative before.now
+    → DoesName (working {F = F} h reader output errors) m n (File mode) from before (Ok done) to after
+    → IsToldBy m.task bytes done
 
 -- ---- outputs that are named by the instances in them
 
