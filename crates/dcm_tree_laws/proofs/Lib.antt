@@ -61,3 +61,4 @@ pub mod UnnamedLeft
 pub mod UnnamedMade
 pub mod CopiesMade
 pub mod CopiedBy
+pub mod RowsToldBy

@@ -15,3 +15,4 @@ pub mod Determined
 pub mod Together
 pub mod Copies
 pub mod Copied
+pub mod Told

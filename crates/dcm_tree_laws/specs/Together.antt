@@ -136,17 +136,17 @@ pub record IsRunOf (keeps : Bool) (task : Task) (output : List ℕ) (number coun
 
 -- the names in a folder, or in a list, were visited to the last one, these in this order
 pub data Visited {I O F W E : Type 0} (w : World FileSystem I O F E) (m : Writer W) (run : TreeRun) (begun : Begun)
-    (before : FileSystem) (visits : List Visit) (after : FileSystem) : Type 0 where
-  in_folder : (path : List ℕ) (opened : F) (headed : W) (from : E) (status : ℕ) (left : W) (to : E)
+    (headed : W) (before : FileSystem) (visits : List Visit) (left : W) (after : FileSystem) : Type 0 where
+  in_folder : (path : List ℕ) (opened : F) (from : E) (status : ℕ) (to : E)
       (v : VisitsAll w m run path begun opened headed from before status left to after)
       → WalksFolder w.folders (noted (visits_of w m)) path begun.number opened ((v.start, from), []) before v.walked
       ((v.last, v.told), visits) after
-      → v.last.stop ≡ None → Visited w m run begun before visits after
-  in_list : (list : List ℕ) (input : I) (headed : W) (from : E) (status : ℕ) (left : W) (to : E) (read : I)
+      → v.last.stop ≡ None → Visited w m run begun headed before visits left after
+  in_list : (list : List ℕ) (input : I) (from : E) (status : ℕ) (to : E) (read : I)
       (v : VisitsListed w m run list begun input headed from before status left to after read)
       → WalksList w.folders (noted (visits_of w m)) w.reader.gets begun.number ((v.start, from), []) before input
       v.walked ((v.last, v.told), visits) after read
-      → v.last.stop ≡ None → Visited w m run begun before visits after
+      → v.last.stop ≡ None → Visited w m run begun headed before visits left after
 
 -- run `number` of `count` was begun, and did not end before its last name. This is so of the names that it visited
 pub record OneRun {I O W E : Type 0} (F : Type 0) (h : Host I O) (reader : Reader I) (output : Writer O) (m : Writer W)
@@ -162,7 +162,9 @@ pub record OneRun {I O W E : Type 0} (F : Type 0) (h : Host I O) (reader : Reade
   pub done : FileSystem
   pub after_is : done.now ≡ after
   pub visits : List Visit
-  pub visited : Visited (working {F = F} h reader output errors) m run begun before visits done
+  pub headed : W
+  pub left : W
+  pub visited : Visited (working {F = F} h reader output errors) m run begun headed before visits left done
   pub are_so : AreSo visits
 
 -- runs of these numbers, one after another, each over what the one before left
@@ -207,6 +209,10 @@ PartsAreOne {I} {O} {W} {E} F reader output m errors =
 
 -- ---- what becomes of them
 
+-- a name that gives its output its own
+abbrev pub its_own : Fate → Done
+its_own fate = record { fate = fate; instance = None }
+
 -- what becomes of a file that ends so
 abbrev pub end_fate : FileEnd → Fate
 end_fate (was_done out verdict) = verdict_fate verdict
@@ -216,7 +222,7 @@ end_fate (no_job stop) = fates.Refused
 pub record IsToldBy (task : Task) (bytes : List ℕ) (done : Done) : Type 0 where
   pub end : FileEnd
   pub ends : EndsAs task bytes end
-  pub is : done ≡ record { fate = end_fate end; instance = None }
+  pub is : done ≡ its_own (end_fate end)
 
 -- so it is of a file whose output is free, in whatever run it is done, and when
 abbrev pub FateIsTold : {I O E : Type 0} → (F : Type 0) → Reader I → Writer O → Writer E → Type 0

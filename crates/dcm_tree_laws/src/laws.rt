@@ -13,6 +13,7 @@ ghost use Rattle.dcm_tree_laws.specs.Outputs.{WrittenIsThere, WrittenIsThereOfLi
 ghost use Rattle.dcm_tree_laws.specs.Part.{NoPartAfterRun, NoPartLeft, NoPartLeftByList};
 ghost use Rattle.dcm_tree_laws.specs.Shares.{ManifestOfShare, OneOutput, OneShare, RowsOfRuns};
 ghost use Rattle.dcm_tree_laws.specs.Single.{SingleRuns, SingleRunsOfList};
+ghost use Rattle.dcm_tree_laws.specs.Told.{RowsAreTold};
 ghost use Rattle.dcm_tree_laws.specs.Together.{FateIsTold, InstancesAreOne, NothingElse, NothingElseAs, PartsAreOne};
 ghost use Rattle.dcm_tree_laws.specs.Twice.{SecondIsStill};
 
@@ -126,11 +127,13 @@ pub fn names_are_shared()
 /// file is then what one run of all names leaves there: what was there before, nothing, or a file of the same mode with
 /// the same bytes. At each other place is what was there, or a folder. So it is where no call fails that need not, and
 /// no run ends before its last name. Names that come to one output have one mode and the same bytes, and no output is
-/// on the way to another one. What becomes of a file whose output is free, and has its name, is told by its bytes.
+/// on the way to another one. What becomes of a name that its output keeps is told by what was there before the first
+/// run, and so is its row.
 pub fn parts_are_one<I: DeviceIn, O: DeviceOut, W: DeviceOut, E: DeviceOut, F>()
     ensures files { PartsAreOne F I.DeviceIn O.DeviceOut W.DeviceOut E.DeviceOut }
     ensures instances { InstancesAreOne F I.DeviceIn O.DeviceOut W.DeviceOut E.DeviceOut }
     ensures nothing_else { NothingElse F I.DeviceIn O.DeviceOut W.DeviceOut E.DeviceOut }
     ensures nothing_else_as { NothingElseAs F I.DeviceIn O.DeviceOut W.DeviceOut E.DeviceOut }
     ensures fate { FateIsTold F I.DeviceIn O.DeviceOut E.DeviceOut }
+    ensures rows { RowsAreTold F I.DeviceIn O.DeviceOut W.DeviceOut E.DeviceOut }
 {}
