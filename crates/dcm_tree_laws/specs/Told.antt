@@ -68,7 +68,7 @@ EachRun F h reader output m errors task folder AreSo count first Is numbers afte
     EachRun F h reader output m errors task folder AreSo count first Is earlier mid runs × Is number mid after one
 
 -- in runs that go on, no two of one share, which visit the same names with outputs apart, each row is told by what was
--- there before the first of them. One run of all names is such runs too, so the rows of runs of all shares are its rows,
+-- there before the first of them. One run of all names is such runs too: so the rows of runs of all shares are its own,
 -- in another order (`names_are_shared`)
 abbrev pub RowsAreTold : {I O W E : Type 0} → (F : Type 0) → Reader I → Writer O → Writer W → Writer E → Type 0
 RowsAreTold {I} {O} {W} {E} F reader output m errors =
