@@ -9,30 +9,31 @@ use Rattle.dcm_trees.specs.Share.{is_of}
 use Rattle.dcm_trees.specs.Task.{Task, task_of}
 use Rattle.dcm_trees.specs.Work.{row, output_of}
 use Rattle.dcm_tree_laws.specs.Again.{OfAll}
-use Rattle.dcm_tree_laws.specs.Copied.{FileWasThere, IsSettled, WasCopied, rows_again, SecondIsAsItWas, SecondIsAsItWasOfList}
+use Rattle.dcm_tree_laws.specs.Copied.{FileWasThere, FileIsSettled, WasCopied, rows_again, SecondIsAsItWas, SecondIsAsItWasOfList}
 use Rattle.dcm_tree_laws.specs.Copies.{again, SameRow, WasDoneAgain, StandsThere}
 use Rattle.dcm_tree_laws.specs.FileSystem.{Tree, Host}
+use Rattle.dcm_tree_laws.specs.Laws.{part_path}
 use Rattle.dcm_tree_laws.specs.OneRow.{RowsOf, no_visit, of_another, and_row}
 use Rattle.dcm_tree_laws.specs.Rows.{Visit}
-use Rattle.dcm_tree_laws.specs.Twice.{OfRows, FileIs}
+use Rattle.dcm_tree_laws.specs.Twice.{OfRows}
 use Rattle.dcm_tree_laws.proofs.StillBy.{before_all, last_of_all}
 use Rattle.dcm_tree_laws.proofs.TwiceBy.{one_more, of_other_share}
 
 -- ---- what stands
 
 -- what each row of a first run says
-all_stand : {I O : Type 0} (h : Host I O) (task : Task) (output : List ℕ) (start now : Tree) (shared : Shared) (visits : List Visit) (text : List ℕ) (rows : RowsOf (WasCopied h task output start now) shared visits text) → OfRows (FileIs IsSettled) rows → OfAll (FileWasThere h start) visits
+all_stand : {I O : Type 0} (h : Host I O) (task : Task) (own output : List ℕ) (start now : Tree) (shared : Shared) (visits : List Visit) (text : List ℕ) (rows : RowsOf (WasCopied h task own output start now) shared visits text) → OfRows (FileIsSettled h own output) rows → OfAll (FileWasThere h start) visits
     → OfAll (StandsThere h task output now shared) visits
-all_stand h task output start now shared visits text (no_visit v t) settled files = subst (OfAll (StandsThere h task output now shared)) (sym v) tt
-all_stand h task output start now shared visits text (of_another earlier v rows none more) settled files =
+all_stand h task own output start now shared visits text (no_visit v t) settled files = subst (OfAll (StandsThere h task output now shared)) (sym v) tt
+all_stand h task own output start now shared visits text (of_another earlier v rows none more) settled files =
     let each : OfAll (FileWasThere h start) (earlier ++ v ∷ []) = subst (OfAll (FileWasThere h start)) more files in
     subst (OfAll (StandsThere h task output now shared)) (sym more)
-    (one_more (StandsThere h task output now shared) earlier v (all_stand h task output start now shared earlier text rows settled (before_all (FileWasThere h start) earlier v each))
+    (one_more (StandsThere h task output now shared) earlier v (all_stand h task own output start now shared earlier text rows settled (before_all (FileWasThere h start) earlier v each))
     (λ share. of_other_share (is_of shared.part.number shared.part.count v.named.relative) none share))
-all_stand h task output start now shared visits text (and_row earlier rest v done rows share so more is) settled files =
+all_stand h task own output start now shared visits text (and_row earlier rest v done rows share so more is) settled files =
     let each : OfAll (FileWasThere h start) (earlier ++ v ∷ []) = subst (OfAll (FileWasThere h start)) more files in
     subst (OfAll (StandsThere h task output now shared)) (sym more)
-    (one_more (StandsThere h task output now shared) earlier v (all_stand h task output start now shared earlier rest rows settled.1 (before_all (FileWasThere h start) earlier v each))
+    (one_more (StandsThere h task output now shared) earlier v (all_stand h task own output start now shared earlier rest rows settled.1 (before_all (FileWasThere h start) earlier v each))
     (λ of_share. (done, so (last_of_all (FileWasThere h start) earlier v each) settled.0)))
 
 -- for another run of the same share
@@ -76,8 +77,8 @@ row_as v done other same = ap (λ (cell : Option (List ℕ)). row v.named.name c
 both_rows : (a b c d : List ℕ) → a ≡ b → c ≡ d → a ++ c ≡ b ++ d
 both_rows a b c d e f = cc
 
-module _ {I O : Type 0} (h : Host I O) (task : Task) (output : List ℕ) (start now : Tree) (a b : Shared) (same : b.part ≡ a.part) where
-  rows_same : (visits others : List Visit) (text other : List ℕ) (x : RowsOf (WasCopied h task output start now) a visits text) → RowsOf (WasDoneAgain h task output now) b others other → others ≡ visits → OfRows (FileIs IsSettled) x → OfAll (FileWasThere h start) visits → other ≡ rows_again x
+module _ {I O : Type 0} (h : Host I O) (task : Task) (own output : List ℕ) (start now : Tree) (a b : Shared) (same : b.part ≡ a.part) where
+  rows_same : (visits others : List Visit) (text other : List ℕ) (x : RowsOf (WasCopied h task own output start now) a visits text) → RowsOf (WasDoneAgain h task output now) b others other → others ≡ visits → OfRows (FileIsSettled h own output) x → OfAll (FileWasThere h start) visits → other ≡ rows_again x
   rows_same visits others text other (no_visit v t) (no_visit w u) names settled files = u
   rows_same visits others text other (no_visit v t) (of_another earlier w rows none more) names settled files = no_last others earlier w (names ∙ v) more
   rows_same visits others text other (no_visit v t) (and_row earlier rest w done rows share so more is) names settled files = no_last others earlier w (names ∙ v) more
@@ -105,30 +106,30 @@ module _ {I O : Type 0} (h : Host I O) (task : Task) (output : List ℕ) (start 
 -- ---- a second run
 
 -- over a folder or a list
-module _ {I O : Type 0} (h : Host I O) (task again_task : Task) (output again_output : List ℕ) (start mid : Tree) (a b : Shared) (tasks : again_task ≡ task) (outputs : again_output ≡ output) (part : b.part ≡ a.part) (visits others : List Visit) (names : others ≡ visits) (text other : List ℕ)
-    (x : RowsOf (WasCopied h task output start mid) a visits text) (settled : OfRows (FileIs IsSettled) x) (files : OfAll (FileWasThere h start) visits) where
+module _ {I O : Type 0} (h : Host I O) (task again_task : Task) (own output again_output : List ℕ) (start mid : Tree) (a b : Shared) (tasks : again_task ≡ task) (outputs : again_output ≡ output) (part : b.part ≡ a.part) (visits others : List Visit) (names : others ≡ visits) (text other : List ℕ)
+    (x : RowsOf (WasCopied h task own output start mid) a visits text) (settled : OfRows (FileIsSettled h own output) x) (files : OfAll (FileWasThere h start) visits) where
   stand_again : OfAll (StandsThere h again_task again_output mid b) others
   stand_again =
       subst (OfAll (StandsThere h again_task again_output mid b)) (sym names)
       (by_share h again_task again_output mid a b part visits
       (subst (λ (t : Task). OfAll (StandsThere h t again_output mid a) visits) (sym tasks)
-      (subst (λ (o : List ℕ). OfAll (StandsThere h task o mid a) visits) (sym outputs) (all_stand h task output start mid a visits text x settled files))))
+      (subst (λ (o : List ℕ). OfAll (StandsThere h task o mid a) visits) (sym outputs) (all_stand h task own output start mid a visits text x settled files))))
 
   same_rows : RowsOf (WasDoneAgain h again_task again_output mid) b others other → other ≡ rows_again x
   same_rows y =
-      rows_same h task output start mid a b part visits others text other x
+      rows_same h task own output start mid a b part visits others text other x
       (subst (λ (o : List ℕ). RowsOf (WasDoneAgain h task o mid) b others other) outputs (subst (λ (t : Task). RowsOf (WasDoneAgain h t again_output mid) b others other) tasks y)) names settled files
 
 pub second_is_as_it_was : {I O F W E : Type 0} (r : Reader I) (w : Writer O) (m : Writer W) (e : Writer E) → SecondIsAsItWas F r w m e
 second_is_as_it_was r w m e h first second path begun rebegun opened reopened headed reheaded from refrom before mid after status restatus left releft to reto tasks outputs shares v x settled files y names =
     let part = y.v.begins.shares.part_is ∙ shares ∙ sym v.begins.shares.part_is in (
-      y.has.same (stand_again h (task_of first.task) (task_of second.task) first.output.now second.output.now before.now mid.now v.start.shared y.v.start.shared tasks outputs part x.visits y.has.visits names x.text y.has.text x.rows settled files),
-      same_rows h (task_of first.task) (task_of second.task) first.output.now second.output.now before.now mid.now v.start.shared y.v.start.shared tasks outputs part x.visits y.has.visits names x.text y.has.text x.rows settled files y.has.rows,
+      y.has.same (stand_again h (task_of first.task) (task_of second.task) (part_path first) first.output.now second.output.now before.now mid.now v.start.shared y.v.start.shared tasks outputs part x.visits y.has.visits names x.text y.has.text x.rows settled files),
+      same_rows h (task_of first.task) (task_of second.task) (part_path first) first.output.now second.output.now before.now mid.now v.start.shared y.v.start.shared tasks outputs part x.visits y.has.visits names x.text y.has.text x.rows settled files y.has.rows,
     )
 
 pub second_by_list : {I O F W E : Type 0} (r : Reader I) (w : Writer O) (m : Writer W) (e : Writer E) → SecondIsAsItWasOfList F r w m e
 second_by_list r w m e h first second list begun rebegun input reinput headed reheaded from refrom before mid after status restatus left releft to reto read reread tasks outputs shares v x settled files y names =
     let part = y.v.begins.shares.part_is ∙ shares ∙ sym v.begins.shares.part_is in (
-      y.has.same (stand_again h (task_of first.task) (task_of second.task) first.output.now second.output.now before.now mid.now v.start.shared y.v.start.shared tasks outputs part x.visits y.has.visits names x.text y.has.text x.rows settled files),
-      same_rows h (task_of first.task) (task_of second.task) first.output.now second.output.now before.now mid.now v.start.shared y.v.start.shared tasks outputs part x.visits y.has.visits names x.text y.has.text x.rows settled files y.has.rows,
+      y.has.same (stand_again h (task_of first.task) (task_of second.task) (part_path first) first.output.now second.output.now before.now mid.now v.start.shared y.v.start.shared tasks outputs part x.visits y.has.visits names x.text y.has.text x.rows settled files),
+      same_rows h (task_of first.task) (task_of second.task) (part_path first) first.output.now second.output.now before.now mid.now v.start.shared y.v.start.shared tasks outputs part x.visits y.has.visits names x.text y.has.text x.rows settled files y.has.rows,
     )

@@ -125,7 +125,7 @@ done_again {I} {O} {F} h r w e k n mode uids start from before result to after x
 
 -- ---- its row
 
-written_again : (fate : Fate) → is_written fate ≡ true → fate_again fate ≡ fates.There
+pub written_again : (fate : Fate) → is_written fate ≡ true → fate_again fate ≡ fates.There
 written_again fates.Written e = refl
 written_again fates.Unplaced e = refl
 written_again fates.There e = absurd (cc)
@@ -157,9 +157,8 @@ cell_there n done uids is named =
     ap (λ (f : Fate). if has_output f then Some (name_in n.relative done.instance) else None) is
     ∙ ap Some (by_name n.relative done.instance named.relative (instance_name uids) named.instance_is named.relative_is)
 
-copy_row : (n : Named) (done first : Done) (uids : Uids) → IsThereAs uids done → IsNamedBy uids first → is_written first.fate ≡ true → SameRow n done (again first)
-copy_row n done first uids there named written =
-    let its : fate_again first.fate ≡ fates.There = written_again first.fate written in
+copy_row : (n : Named) (done first : Done) (uids : Uids) → IsThereAs uids done → IsNamedBy uids first → fate_again first.fate ≡ fates.There → SameRow n done (again first)
+copy_row n done first uids there named its =
     record {
       output_is = cell_there n done uids there.fate_is there.named ∙ sym (cell_there n (again first) uids its (record { relative = named.relative; instance_is = named.instance_is; relative_is = named.relative_is }));
       word_is = ap word there.fate_is ∙ sym (ap word its);

@@ -7,6 +7,7 @@ use Rattle.dcm_walk.specs.Visits.{Named}
 use Rattle.dcm_walk.specs.declared.visitor.What.{What}
 use Rattle.dcm_walk.specs.declared.visitor.What.TheVariants.{File}
 use Rattle.dcm_cli.specs.Calls.{Reader}
+use Rattle.dcm_trees.specs.declared.fate.Fate.{Fate}
 use Rattle.dcm_trees.specs.declared.fate.Fate.TheVariants as fates
 use Rattle.dcm_trees.specs.declared.file.Done.{Done}
 use Rattle.dcm_trees.specs.declared.progress.Shared.{Shared}
@@ -21,16 +22,15 @@ use Rattle.dcm_trees.specs.Run.{Shares}
 use Rattle.dcm_trees.specs.Task.{task_of}
 use Rattle.dcm_trees.specs.Work.{visits_of}
 use Rattle.dcm_tree_laws.specs.Again.{sure}
-use Rattle.dcm_tree_laws.specs.Copied.{FileWasThere, is_settled, IsSettled, WasCopied, CopiesAreThere, CopiesAreThereOfList}
-use Rattle.dcm_tree_laws.specs.Copies.{EndsUnnamed, HasFile, Stands, of_copy, unnamed, an_index, no_file}
+use Rattle.dcm_tree_laws.specs.Copied.{FileWasThere, is_settled, IsSettled, FileIsSettled, WasCopied, CopiesAreThere, CopiesAreThereOfList}
+use Rattle.dcm_tree_laws.specs.Copies.{EndsUnnamed, fate_again, HasFile, Stands, of_copy, unnamed, an_index, no_file}
 use Rattle.dcm_tree_laws.specs.Determined.{FileAt, FollowsLinks, as_whole, working, working_folders}
 use Rattle.dcm_tree_laws.specs.FileSystem.{FileSystem, Tree, Host, number_of, place_of, at_path, folders_do}
 use Rattle.dcm_tree_laws.specs.Laws.{IsOutput, part_path}
 use Rattle.dcm_tree_laws.specs.Rows.{Visit, noted}
 use Rattle.dcm_tree_laws.specs.Single.{TellsAll}
 use Rattle.dcm_tree_laws.specs.Stays.{IsOfOutput, Stays}
-use Rattle.dcm_tree_laws.specs.Twice.{FileIs}
-use Rattle.dcm_tree_laws.proofs.CopiesBy.{working_quiet, over_visit, apart_by, file_still}
+use Rattle.dcm_tree_laws.proofs.CopiesBy.{working_quiet, over_visit, apart_by, file_still, written_again}
 use Rattle.dcm_tree_laws.proofs.CopyLeft.{none_other}
 use Rattle.dcm_tree_laws.proofs.CopyMade.{CopyMade, copy_made, copy_made_stays, copy_found}
 use Rattle.dcm_tree_laws.proofs.Lists.{lines_do}
@@ -40,7 +40,8 @@ use Rattle.dcm_tree_laws.proofs.OutputsBy.{Leaves, leaves, Still, then_stays, pa
 use Rattle.dcm_tree_laws.proofs.Quiet.{only_quiet, IsClosed, IsSame}
 use Rattle.dcm_tree_laws.proofs.RowsBy.{HasRows, visit_of, visit_rows, rows_kept, no_rows, same_manifest}
 use Rattle.dcm_tree_laws.proofs.Runs.{visit_name}
-use Rattle.dcm_tree_laws.proofs.UnnamedMade.{Ended, ended}
+use Rattle.dcm_tree_laws.proofs.MetMade.{met_unnamed}
+use Rattle.dcm_tree_laws.proofs.UnnamedMade.{Ended, ended, is_ended}
 use Rattle.dcm_tree_laws.proofs.Walks.{VisitsDo, walks_do}
 use Rattle.dcm_tree_laws.proofs.Working.{whole_gives}
 
@@ -53,10 +54,11 @@ record Goes {I O : Type 0} (h : Host I O) (w : Writer O) (start : Tree) (k : Man
   by : k.keeps_names ≡ false
   none : at_path h start k.part ≡ None
   leads : h.leads Followed k.part ≡ place_of h k.part
+  follows : FollowsLinks h start
 
 -- what the row of a name says, as a run left it
 data IsFirst {I O : Type 0} (h : Host I O) (k : Manner) (start now : Tree) (v : Visit) (done : Done) : Type 0 where
-  copied : (mode : ℕ) → v.what ≡ File mode → is_media_index v.named.relative ≡ false → is_written done.fate ≡ true → (f : HasFile h start v) → CopyMade h k.task k.part k.output (start.bytes (number_of f.file.file)) done now → IsFirst h k start now v done
+  copied : (mode : ℕ) → v.what ≡ File mode → is_media_index v.named.relative ≡ false → fate_again done.fate ≡ fates.There → (f : HasFile h start v) → CopyMade h k.task k.part k.output (start.bytes (number_of f.file.file)) done now → IsFirst h k start now v done
   was_ended : (mode : ℕ) → v.what ≡ File mode → is_media_index v.named.relative ≡ false → is_written done.fate ≡ false → (f : HasFile h start v) → Ended k.task (start.bytes (number_of f.file.file)) done → IsFirst h k start now v done
   was_index : (mode : ℕ) → v.what ≡ File mode → is_media_index v.named.relative ≡ true → done ≡ without_name fates.MediaIndex → IsFirst h k start now v done
   was_no_file : ((mode : ℕ) → v.what ≢ File mode) → done ≡ without_name (fate_of v.what) → IsFirst h k start now v done
@@ -69,7 +71,7 @@ first_stays h k start t u v done stays (was_no_file other d) = was_no_file other
 
 -- of a file that was there at the start, and is settled
 abbrev Made : {I O : Type 0} → Host I O → Manner → (start now : Tree) → Visit → Done → Type 0
-Made h k start now v done = FileWasThere h start v → FileIs IsSettled v done → IsFirst h k start now v done
+Made h k start now v done = FileWasThere h start v → FileIsSettled h k.part k.output v done → IsFirst h k start now v done
 
 copy_of : {I O F E : Type 0} (h : Host I O) (r : Reader I) (w : Writer O) (e : Writer E) (k : Manner) (n : Named) (what : What) (start : Tree) (from : E) (before : FileSystem) (done : Done) (to : E) (after : FileSystem) → Goes h w start k → before.written ≡ None → Still h k.part start before.now
     → DoesName (working {F = F} h r w e) k n what from before (Ok done) to after → is_written done.fate ≡ true → (f : HasFile h start (visit_of n what)) → CopyMade h k.task k.part k.output (start.bytes (number_of f.file.file)) done after.now
@@ -82,24 +84,49 @@ copy_of {I} {O} {F} h r w e k n what start from before done to after goes none s
 true_false : {A : Type 0} (b : Bool) → b ≡ true → b ≡ false → A
 true_false b e f = absurd (cc)
 
-by_written : {I O F E : Type 0} (h : Host I O) (r : Reader I) (w : Writer O) (e : Writer E) (k : Manner) (n : Named) (what : What) (mode : ℕ) (start : Tree) (from : E) (before : FileSystem) (done : Done) (to : E) (after : FileSystem) (b : Bool) → is_written done.fate ≡ b → Goes h w start k
-    → before.written ≡ None → Still h k.part start before.now → what ≡ File mode → is_media_index n.relative ≡ false → DoesUnnamed (working {F = F} h r w e) k n mode from before (Ok done) to after → k.keeps_names ≡ false → HasFile h start (visit_of n what) → is_settled done.fate ≡ true
-    → IsFirst h k start after.now (visit_of n what) done
-by_written {I} {O} {F} h r w e k n what mode start from before done to after true written goes none still is index does by f settled =
-    copied mode is index written f (copy_of {F = F} h r w e k n what start from before done to after goes none still (files.a_file mode is (files.by_instance index by does)) written f)
-by_written {I} {O} {F} h r w e k n what mode start from before done to after false not goes none still is index does by f settled =
+-- how a row is settled
+data Settled (fate : Fate) : Type 0 where
+  was_written : is_written fate ≡ true → Settled fate
+  was_there : fate ≡ fates.There → Settled fate
+  ended_so : is_ended fate ≡ true → is_written fate ≡ false → Settled fate
+
+settled_by : (fate : Fate) → is_settled fate ≡ true → Settled fate
+settled_by fates.Written e = was_written refl
+settled_by fates.Unplaced e = was_written refl
+settled_by fates.There e = was_there refl
+settled_by fates.Refused e = ended_so refl refl
+settled_by fates.Pixels e = ended_so refl refl
+settled_by fates.Unnamed e = ended_so refl refl
+settled_by fates.Occupied e = absurd (cc)
+settled_by fates.LeftOut e = absurd (cc)
+settled_by fates.MediaIndex e = absurd (cc)
+settled_by fates.Unread e = absurd (cc)
+settled_by fates.Unwritten e = absurd (cc)
+
+by_fate : {I O F E : Type 0} (h : Host I O) (r : Reader I) (w : Writer O) (e : Writer E) (k : Manner) (n : Named) (what : What) (mode : ℕ) (start : Tree) (from : E) (before : FileSystem) (done : Done) (to : E) (after : FileSystem) → Settled done.fate → Goes h w start k
+    → before.written ≡ None → Still h k.part start before.now → what ≡ File mode → is_media_index n.relative ≡ false → DoesUnnamed (working {F = F} h r w e) k n mode from before (Ok done) to after → k.keeps_names ≡ false → HasFile h start (visit_of n what)
+    → IsSettled h k.part k.output (visit_of n what) done → IsFirst h k start after.now (visit_of n what) done
+by_fate {I} {O} {F} h r w e k n what mode start from before done to after (was_written written) goes none still is index does by f settled =
+    copied mode is index (written_again done.fate written) f (copy_of {F = F} h r w e k n what start from before done to after goes none still (files.a_file mode is (files.by_instance index by does)) written f)
+by_fate {I} {O} {F} h r w e k n what mode start from before done to after (was_there there) goes none still is index does by f settled =
+    let now : FileAt h Followed before.now n.path = file_still h k.part n.path start before.now goes.none still f.file in
+    copied mode is index (ap fate_again there) f
+    (subst (λ (b : List ℕ). CopyMade h k.task k.part k.output b done after.now)
+    (still.bytes (h.leads Followed n.path) f.file.file (apart_by start (h.leads Followed n.path) (place_of h k.part) f.file.file goes.none f.file.is) f.file.is)
+    (met_unnamed F h r w e (whole_gives h r w goes.tells) k goes.of_output goes.leads start goes.follows n mode from before (Ok done) to after done still none f.text now does refl there (settled.elsewhere there)))
+by_fate {I} {O} {F} h r w e k n what mode start from before done to after (ended_so so not) goes none still is index does by f settled =
     let now : FileAt h Followed before.now n.path = file_still h k.part n.path start before.now goes.none still f.file in
     was_ended mode is index not f
     (subst (λ (b : List ℕ). Ended k.task b done)
     (still.bytes (h.leads Followed n.path) f.file.file (apart_by start (h.leads Followed n.path) (place_of h k.part) f.file.file goes.none f.file.is) f.file.is)
-    (ended F h r w e (whole_gives h r w goes.tells) k goes.leads n mode from before (Ok done) to after done f.text now does refl not settled))
+    (ended F h r w e (whole_gives h r w goes.tells) k goes.leads n mode from before (Ok done) to after done f.text now does refl not so))
 
 name_made : {I O F E : Type 0} (h : Host I O) (r : Reader I) (w : Writer O) (e : Writer E) (k : Manner) (n : Named) (what : What) (start : Tree) (from : E) (before : FileSystem) (done : Done) (to : E) (after : FileSystem) → Goes h w start k → before.written ≡ None → Still h k.part start before.now
     → DoesName (working {F = F} h r w e) k n what from before (Ok done) to after → Made h k start after.now (visit_of n what) done
 name_made h r w e k n what start from before done to after goes none still (files.a_file mode is (files.an_index index told ok same)) there settled = was_index mode is index (same_ok (Ok done) (without_name fates.MediaIndex) done ok refl)
 name_made h r w e k n what start from before done to after goes none still (files.a_file mode is (files.keeps_name became index kept does ok)) there settled = true_false k.keeps_names kept goes.by
 name_made {I} {O} {F} h r w e k n what start from before done to after goes none still (files.a_file mode is (files.by_instance index not does)) there settled =
-    by_written {F = F} h r w e k n what mode start from before done to after (is_written done.fate) refl goes none still is index does not (there mode is) (settled mode is index)
+    by_fate {F = F} h r w e k n what mode start from before done to after (settled_by done.fate (settled mode is index).settled) goes none still is index does not (there mode is) (settled mode is index)
 name_made h r w e k n what start from before done to after goes none still (files.no_file other told ok same) there settled = was_no_file other (same_ok (Ok done) (without_name (fate_of what)) done ok refl)
 
 -- ---- all names
@@ -162,6 +189,7 @@ goes_on h w start run part shared shares is tells by none follows = subst (Goes 
   by = by;
   none = subst (λ (p : List ℕ). at_path h start p ≡ None) (sym is) none;
   leads = subst (λ (p : List ℕ). h.leads Followed p ≡ place_of h p) (sym is) (follows (part_path run) (none_other h start (part_path run) none));
+  follows = follows;
 })
 
 -- it stands for the next run
@@ -178,10 +206,10 @@ stands h k start now v done none still (was_index mode is index d) = an_index mo
 stands h k start now v done none still (was_no_file other d) = no_file other d
 
 rows_found : {I O W : Type 0} (h : Host I O) (k : Manner) (start now : Tree) (m : Writer W) (shared : Shared) (headed : W) (visits : List Visit) (manifest : W) → at_path h start k.part ≡ None → Still h k.part start now → HasRows m (Made h k start now) shared headed visits manifest
-    → HasRows m (WasCopied h k.task k.output start now) shared headed visits manifest
+    → HasRows m (WasCopied h k.task k.part k.output start now) shared headed visits manifest
 rows_found h k start now m shared headed visits manifest none still x = record {
   text = x.text;
-  rows = rows_kept (Made h k start now) (WasCopied h k.task k.output start now) shared (λ v done made there settled. stands h k start now v done none still (made there settled)) visits x.text x.rows;
+  rows = rows_kept (Made h k start now) (WasCopied h k.task k.part k.output start now) shared (λ v done made there settled. stands h k start now v done none still (made there settled)) visits x.text x.rows;
   manifest_is = x.manifest_is;
 }
 
@@ -195,9 +223,10 @@ copies_are_there {I} {O} {F} {W} {E} r w m e h run path begun opened headed from
     walks_do d (only_quiet d (working_quiet h)) (StaysGood h before.now m shared headed) (closed h before.now m shared headed) (noted (visits_of (working {F = F} h r w e) m))
     (visits_good {F = F} h before.now r w e m shared headed goes) path begun.number opened ((v.start, from), []) before v.walked ((v.last, v.told), walk.0) after walk.1
     (first h m headed v.start from before quiet (ap (λ p. p.manifest) v.begins.nothing)) in
-    let rows : HasRows m (WasCopied h (task_of run.task) run.output.now before.now after.now) shared headed walk.0 v.last.manifest =
-    subst (λ (k : Manner). HasRows m (WasCopied h k.task k.output before.now after.now) shared headed walk.0 v.last.manifest) v.begins.shares.manner
-    (rows_found h (manner_of shared.manner) before.now after.now m shared headed walk.0 v.last.manifest goes.none good.still (good.rows stop)) in
+    let rows : HasRows m (WasCopied h (task_of run.task) (part_path run) run.output.now before.now after.now) shared headed walk.0 v.last.manifest =
+    subst (λ (p : List ℕ). HasRows m (WasCopied h (task_of run.task) p run.output.now before.now after.now) shared headed walk.0 v.last.manifest) part
+    (subst (λ (k : Manner). HasRows m (WasCopied h k.task k.part k.output before.now after.now) shared headed walk.0 v.last.manifest) v.begins.shares.manner
+    (rows_found h (manner_of shared.manner) before.now after.now m shared headed walk.0 v.last.manifest goes.none good.still (good.rows stop))) in
     record {
       visits = walk.0;
       text = rows.text;
@@ -216,9 +245,10 @@ copies_by_list {I} {O} {F} {W} {E} r w m e h run list begun input headed from be
     lines_do d (only_quiet d (working_quiet h)) (StaysGood h before.now m shared headed) (closed h before.now m shared headed) (noted (visits_of (working {F = F} h r w e) m))
     (visits_good {F = F} h before.now r w e m shared headed goes) (as_whole h r).gets begun.number ((v.start, from), []) before input v.walked ((v.last, v.told), walk.0) after read walk.1
     (first h m headed v.start from before quiet (ap (λ p. p.manifest) v.begins.nothing)) in
-    let rows : HasRows m (WasCopied h (task_of run.task) run.output.now before.now after.now) shared headed walk.0 v.last.manifest =
-    subst (λ (k : Manner). HasRows m (WasCopied h k.task k.output before.now after.now) shared headed walk.0 v.last.manifest) v.begins.shares.manner
-    (rows_found h (manner_of shared.manner) before.now after.now m shared headed walk.0 v.last.manifest goes.none good.still (good.rows stop)) in
+    let rows : HasRows m (WasCopied h (task_of run.task) (part_path run) run.output.now before.now after.now) shared headed walk.0 v.last.manifest =
+    subst (λ (p : List ℕ). HasRows m (WasCopied h (task_of run.task) p run.output.now before.now after.now) shared headed walk.0 v.last.manifest) part
+    (subst (λ (k : Manner). HasRows m (WasCopied h k.task k.part k.output before.now after.now) shared headed walk.0 v.last.manifest) v.begins.shares.manner
+    (rows_found h (manner_of shared.manner) before.now after.now m shared headed walk.0 v.last.manifest goes.none good.still (good.rows stop))) in
     record {
       visits = walk.0;
       text = rows.text;

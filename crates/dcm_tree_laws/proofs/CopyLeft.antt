@@ -398,7 +398,7 @@ copy_again h r w e m n mode uids from before result to after tells by no_index n
 pub none_other : {I O : Type 0} (h : Host I O) (t : Tree) (path : List ℕ) → at_path h t path ≡ None → (f : Found) → at_path h t path ≡ Some f → f.kind ≢ kinds.Other
 none_other h t path none f is kind = none_some (at_path h t path) f none is
 
-no_link : (o : Option Found) (f g : Found) → o ≡ Some f → f.kind ≡ kinds.File → o ≡ Some g → g.kind ≢ kinds.Other
+pub no_link : (o : Option Found) (f g : Found) → o ≡ Some f → f.kind ≡ kinds.File → o ≡ Some g → g.kind ≢ kinds.Other
 no_link o f g is file at other = file_other (sym file ∙ ap (λ (x : Found). x.kind) (same_found o f g is at) ∙ other)
 
 pub leads_by : {I O : Type 0} (h : Host I O) (part output : List ℕ) (t : Tree) (uids : Uids) (made : List ℕ) → FollowsLinks h t → FilesFit t → IsUtf8 part → at_path h t part ≡ None → (there : IsThere h output (instance_name uids) t) → t.bytes (number_of there.file.found) ≡ made

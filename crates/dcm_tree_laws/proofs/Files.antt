@@ -72,7 +72,7 @@ named {I} {O} {F} h r w e m n mode from before result to after (spec.placed path
 
 -- ---- a file whose output is named by the instance in it
 
-gives_free : {I O F : Type 0} (h : Host I O) (IsWhole : ℕ → List ℕ → Type 0) (part output bytes path relative : List ℕ) → path ≡ below output relative → (before : FileSystem) (naming : Naming) (after : FileSystem)
+pub gives_free : {I O F : Type 0} (h : Host I O) (IsWhole : ℕ → List ℕ → Type 0) (part output bytes path relative : List ℕ) → path ≡ below output relative → (before : FileSystem) (naming : Naming) (after : FileSystem)
     → GivesFreeName (may_do {I = I} h) (folders_do {F = F} h) part path (length output + 1) before naming after → Steps h IsWhole part output (whole bytes) before (phase_of bytes naming) after
 gives_free {I} {O} {F} h IsWhole part output bytes path relative is before naming after (instance.not_free place f nf i) =
     by_naming bytes naming (NotFree place) i (quiet (finds (folders_do {F = F} h) (are_quiet h) path (length output + 1) before place after f))

@@ -57,8 +57,10 @@ pub mod ToldBy
 pub mod CopyLeft
 pub mod CopiesBy
 pub mod CopyMade
+pub mod CopyMet
 pub mod UnnamedLeft
 pub mod UnnamedMade
+pub mod MetMade
 pub mod CopiesMade
 pub mod CopiedBy
 pub mod RowsToldBy

@@ -63,11 +63,11 @@ made_there h IsWhole part output relative t made = record {
   way = λ folder behind is. (made.way folder behind is).at;
 }
 
-way_joined : (output relative folder behind : List ℕ) → relative ≡ below folder behind → below output relative ≡ below (below output folder) behind
+pub way_joined : (output relative folder behind : List ℕ) → relative ≡ below folder behind → below output relative ≡ below (below output folder) behind
 way_joined output relative folder behind is =
     ap (below output) is ∙ sym (append_assoc (output ++ codes "/") (folder ++ codes "/") behind) ∙ ap (λ (x : List ℕ). x ++ behind) (sym (append_assoc (output ++ codes "/") folder (codes "/")))
 
-within_it : (output folder : List ℕ) → length output < length (below output folder)
+pub within_it : (output folder : List ℕ) → length output < length (below output folder)
 within_it output folder = omega (arith, length-append (output ++ codes "/") folder, length-append output (codes "/"))
 
 pub new_made : {I O : Type 0} (h : Host I O) (IsWhole : ℕ → List ℕ → Type 0) (part output relative : List ℕ) (t u : Tree) → nat_le (length (below output relative)) PATH_LIMIT ≡ true → NewOutput h IsWhole part output (below output relative) t u

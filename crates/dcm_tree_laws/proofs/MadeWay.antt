@@ -48,21 +48,21 @@ no_kind e = absurd (cc)
 same_found : (o : Option Found) (f g : Found) → o ≡ Some f → o ≡ Some g → f ≡ g
 same_found o f g a b = cc
 
-kinds_apart : (t : Tree) (place part : List ℕ) (f g : Found) → t.at place ≡ Some f → t.at part ≡ Some g → f.kind ≡ kinds.Folder → g.kind ≡ kinds.File → place ≢ part
+pub kinds_apart : (t : Tree) (place part : List ℕ) (f g : Found) → t.at place ≡ Some f → t.at part ≡ Some g → f.kind ≡ kinds.Folder → g.kind ≡ kinds.File → place ≢ part
 kinds_apart t place part f g is other folder file e = no_kind (sym folder ∙ ap (λ (x : Found). x.kind) (same_found (t.at part) f g (ap t.at (sym e) ∙ is) other) ∙ file)
 
 -- what was seen
-record SeenFolder {U : Type 0} (seen : Result (Option Found) U) : Type 0 where
-  found : Found
-  is : seen ≡ Ok (Some found)
-  kind_is : found.kind ≡ kinds.Folder
+pub record SeenFolder {U : Type 0} (seen : Result (Option Found) U) : Type 0 where
+  pub found : Found
+  pub is : seen ≡ Ok (Some found)
+  pub kind_is : found.kind ≡ kinds.Folder
 
 goes_along : (kind : FoundKind) → is_none (end_at kind) ≡ true → kind ≡ kinds.Folder
 goes_along kinds.Folder e = refl
 goes_along kinds.File e = absurd (cc)
 goes_along kinds.Other e = absurd (cc)
 
-seen_folder : (seen : Result (Option Found) _) → is_none (end_of_way seen) ≡ true → SeenFolder seen
+pub seen_folder : (seen : Result (Option Found) _) → is_none (end_of_way seen) ≡ true → SeenFolder seen
 seen_folder (Ok None) e = absurd (cc)
 seen_folder (Ok (Some f)) e = record { found = f; is = refl; kind_is = goes_along f.kind e }
 seen_folder (Err u) e = absurd (cc)
@@ -80,7 +80,7 @@ is_first_by path from size p first least less slash (inl e) = e.1
 is_first_by path from size p first least less slash (inr e) =
     true_false (is_slash (slice_index (drop from path) (p - from))) (slash_at path from p least slash) (first.2 (p - from) (omega (arith, less, least, e.1)))
 
-is_first : (path : List ℕ) (from size p : ℕ) → IsSlash (drop from path) (Some size) → from ≤ p → p < from + (size + 1) → is_slash (slice_index path p) ≡ true → p ≡ from + size
+pub is_first : (path : List ℕ) (from size p : ℕ) → IsSlash (drop from path) (Some size) → from ≤ p → p < from + (size + 1) → is_slash (slice_index path p) ≡ true → p ≡ from + size
 is_first path from size p first least less slash = is_first_by path from size p first least less slash (eqb_tells p (from + size))
 
 -- none is behind the last one
@@ -88,12 +88,12 @@ none_behind : {A : Type 0} (path : List ℕ) (at p : ℕ) → IsSlash (drop at p
 none_behind path at p none least inside slash =
     true_false (is_slash (slice_index (drop at path) (p - at))) (slash_at path at p least slash) (none (p - at) (omega (arith, least, inside, length-drop at path)))
 
-up_to_last : {A : Type 0} (path : List ℕ) (at p : ℕ) → (p < at) ⊎ (at ≤ p) → p < length path → is_slash (slice_index path p) ≡ true → IsSlash (drop at path) None → (p < at → A) → A
+pub up_to_last : {A : Type 0} (path : List ℕ) (at p : ℕ) → (p < at) ⊎ (at ≤ p) → p < length path → is_slash (slice_index path p) ≡ true → IsSlash (drop at path) None → (p < at → A) → A
 up_to_last path at p (inl less) inside slash none then = then less
 up_to_last path at p (inr least) inside slash none then = none_behind path at p none least inside slash
 
 -- a slash in a path is behind a folder on its way
-in_path : (path folder behind : List ℕ) → path ≡ below folder behind → (length folder < length path) × (is_slash (slice_index path (length folder)) ≡ true) × (take (length folder) path ≡ folder)
+pub in_path : (path folder behind : List ℕ) → path ≡ below folder behind → (length folder < length path) × (is_slash (slice_index path (length folder)) ≡ true) × (take (length folder) path ≡ folder)
 in_path path folder behind is =
     let cut : path ≡ folder ++ (47 ∷ behind) = is ∙ append_assoc folder (codes "/") behind in (
       omega (arith, ap length cut, length-append folder (47 ∷ behind)),

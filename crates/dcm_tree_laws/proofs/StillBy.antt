@@ -56,7 +56,7 @@ there_stays h part output relative start now none still there = record {
 
 -- ---- a name
 
-sure_may : {I O F : Type 0} (h : Host I O) → Implies (sure (folders_do {F = F} h)) (folders_do {F = F} h)
+pub sure_may : {I O F : Type 0} (h : Host I O) → Implies (sure (folders_do {F = F} h)) (folders_do {F = F} h)
 sure_may h = record {
   sees = λ before path links r after call. call.0;
   folder = λ before path r after call. call;

@@ -21,7 +21,7 @@ abbrev pub Sees : {S O F : Type 0} → (d e : FoldersDo S O F) → Type 0
 Sees {S} d e = (before : S) (path : List ℕ) (links : Links) (r : Result (Option Found) Error) (after : S) → d.finds before path links r after → e.finds before path links r after
 
 module _ {S O F : Type 0} (d e : FoldersDo S O F) (sees : Sees d e) where
-  looks : (path : List ℕ) (before : S) (seen : Result (Option Found) _) (after : S) → Looks d path before seen after → Looks e path before seen after
+  pub looks : (path : List ℕ) (before : S) (seen : Result (Option Found) _) (after : S) → Looks d path before seen after → Looks e path before seen after
   looks path before seen after (places.no_text u t is same) = places.no_text u t is same
   looks path before seen after (places.looked found t call is) = places.looked found t (sees before path Kept (Ok found) after call) is
   looks path before seen after (places.not_looked error u t call is) = places.not_looked error u t (sees before path Kept (Err error) after call) is

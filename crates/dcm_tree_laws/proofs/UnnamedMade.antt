@@ -28,7 +28,6 @@ use Rattle.dcm_trees.specs.Manner.{Manner}
 use Rattle.dcm_trees.specs.Part as parts
 use Rattle.dcm_trees.specs.Part.{TellsNoPart, naming_fate}
 use Rattle.dcm_trees.specs.Task.{Task}
-use Rattle.dcm_tree_laws.specs.Copied.{is_settled}
 use Rattle.dcm_tree_laws.specs.Copies.{EndsUnnamed, no_days, not_done, no_instance}
 use Rattle.dcm_tree_laws.specs.Determined.{FileAt, ComesTo, as_whole, working, working_may}
 use Rattle.dcm_tree_laws.specs.FileSystem.{FileSystem, Host, number_of, place_of, may_do, ClosesOutput}
@@ -40,6 +39,13 @@ use Rattle.dcm_tree_laws.proofs.Jobs as jobs
 use Rattle.dcm_tree_laws.proofs.Looking.{same_ok}
 use Rattle.dcm_tree_laws.proofs.Working.{working_also, IsOpened, is_opened, JobIs, job_found, HasDone, job_done, instance_found}
 use Rattle.dcm_tree_laws.proofs.Works as works
+
+-- it could not be written for what the file holds
+abbrev pub is_ended : Fate → Bool
+is_ended fates.Refused = true
+is_ended fates.Pixels = true
+is_ended fates.Unnamed = true
+is_ended _ = false
 
 true_false : {A : Type 0} (b : Bool) → b ≡ true → b ≡ false → A
 true_false b e f = absurd (cc)
@@ -56,20 +62,20 @@ ended_as task held done fate is ends =
 
 -- ---- other rows
 
-unsettled : {A : Type 0} (done : Done) (fate : Fate) → done ≡ without_name fate → is_settled fate ≡ false → is_settled done.fate ≡ true → A
-unsettled done fate is not settled = true_false (is_settled done.fate) settled (ap (λ (d : Done). is_settled d.fate) is ∙ not)
+unsettled : {A : Type 0} (done : Done) (fate : Fate) → done ≡ without_name fate → is_ended fate ≡ false → is_ended done.fate ≡ true → A
+unsettled done fate is not settled = true_false (is_ended done.fate) settled (ap (λ (d : Done). is_ended d.fate) is ∙ not)
 
-place_unsettled : (place : Place) (same : Bool) → is_settled (place_fate place same) ≡ false
+place_unsettled : (place : Place) (same : Bool) → is_ended (place_fate place same) ≡ false
 place_unsettled places.There true = refl
 place_unsettled places.There false = refl
 place_unsettled places.Taken same = refl
 place_unsettled places.Free same = refl
 
-naming_unsettled : {A : Type 0} (naming : Naming) (fate : Fate) (same : Bool) → is_written fate ≡ true → is_written (naming_fate naming fate same) ≡ false → is_settled (naming_fate naming fate same) ≡ true → A
+naming_unsettled : {A : Type 0} (naming : Naming) (fate : Fate) (same : Bool) → is_written fate ≡ true → is_written (naming_fate naming fate same) ≡ false → is_ended (naming_fate naming fate same) ≡ true → A
 naming_unsettled Linked fate same written not settled = true_false (is_written fate) written not
 naming_unsettled Moved fate same written not settled = true_false (is_written fate) written not
-naming_unsettled (NotFree place) fate same written not settled = true_false (is_settled (place_fate place same)) settled (place_unsettled place same)
-naming_unsettled Failed fate same written not settled = true_false (is_settled fates.Unwritten) settled refl
+naming_unsettled (NotFree place) fate same written not settled = true_false (is_ended (place_fate place same)) settled (place_unsettled place same)
+naming_unsettled Failed fate same written not settled = true_false (is_ended fates.Unwritten) settled refl
 
 tells_unwritten : {E : Type 0} (e : Writer E) (name : List ℕ) (cause : NoPart) (from : E) (became : Result Fate PartThere) (result : Result Done PartThere) (to : E) (done : Done) → TellsNoPart e name cause from became to → result ≡ unnamed became → result ≡ Ok done → done ≡ without_name fates.Unwritten
 tells_unwritten e name cause from became result to done (parts.of_another p c t is) r ok = absurd (not_ok (unnamed became) p done (ap unnamed is) (sym r ∙ ok))
@@ -78,7 +84,7 @@ tells_unwritten e name cause from became result to done (parts.of_another p c t 
     not_ok x p done a b = absurd (cc)
 tells_unwritten e name cause from became result to done (parts.told c t is) r ok = same_ok result (without_name fates.Unwritten) done (r ∙ ap unnamed is) ok
 
-ends_unwritten : {E : Type 0} (e : Writer E) (name : List ℕ) (cause : NoPart) (from : E) (result : Result Done PartThere) (to : E) (done : Done) → EndsWithoutPart e name cause from result to → result ≡ Ok done → done ≡ without_name fates.Unwritten
+pub ends_unwritten : {E : Type 0} (e : Writer E) (name : List ℕ) (cause : NoPart) (from : E) (result : Result Done PartThere) (to : E) (done : Done) → EndsWithoutPart e name cause from result to → result ≡ Ok done → done ≡ without_name fates.Unwritten
 ends_unwritten e name cause from result to done (instance.ended became tells is) ok = tells_unwritten e name cause from became result to done tells is ok
 
 no_job_ends : (task : Task) (held : List ℕ) (cause : NoDays) → JobIs task held (Err cause) → EndsUnnamed task held (no_days_fate cause)
@@ -89,21 +95,21 @@ no_job_ends task held days.Unopened found = absurd found
 -- ---- how it ended
 
 module _ {I O E : Type 0} (F : Type 0) (h : Host I O) (r : Reader I) (w : Writer O) (e : Writer E) (all : GivesAll h (as_whole h r) w) (m : Manner) (leads : h.leads Followed m.part ≡ place_of h m.part) where
-  ended_by : {A : Type 0} (name : List ℕ) (i : Instance) (fate : Fate) (from : E) (s : FileSystem) (done : Done) (to : E) (after : FileSystem) → is_written fate ≡ true → NamesBy (working {F = F} h r w e) m name i fate from s done to after → is_written done.fate ≡ false → is_settled done.fate ≡ true → A
+  ended_by : {A : Type 0} (name : List ℕ) (i : Instance) (fate : Fate) (from : E) (s : FileSystem) (done : Done) (to : E) (after : FileSystem) → is_written fate ≡ true → NamesBy (working {F = F} h r w e) m name i fate from s done to after → is_written done.fate ≡ false → is_ended done.fate ≡ true → A
   ended_by name i fate from s done to after written (instance.too_long none removes told is) not settled = unsettled done fates.Unwritten is refl settled
   ended_by name i fate from s done to after written (instance.placed path became relative at p rel d) not settled =
       let its : done.fate ≡ naming_fate p.naming fate p.same = ap (λ (x : Done). x.fate) d ∙ p.becomes in
-      naming_unsettled p.naming fate p.same written (sym (ap is_written its) ∙ not) (sym (ap is_settled its) ∙ settled)
+      naming_unsettled p.naming fate p.same written (sym (ap is_written its) ∙ not) (sym (ap is_ended its) ∙ settled)
 
   ended_named : (name held out : List ℕ) (verdict : Verdict) (fate : Fate) (from : E) (s : FileSystem) (done : Done) (to : E) (after : FileSystem) → ComesTo m.task held out verdict → is_written (verdict_fate verdict) ≡ true → is_written fate ≡ true → IsUtf8 m.part → (f : FileAt h Followed s.now m.part)
-      → s.now.bytes (number_of f.file) ≡ out → NamesPart (working {F = F} h r w e) m name fate from s done to after → is_written done.fate ≡ false → is_settled done.fate ≡ true → Ended m.task held done
+      → s.now.bytes (number_of f.file) ≡ out → NamesPart (working {F = F} h r w e) m name fate from s done to after → is_written done.fate ≡ false → is_ended done.fate ≡ true → Ended m.task held done
   ended_named name held out verdict fate from s done to after comes written fate_written text f is (instance.no_instance cause read finds removes told d) not settled =
       ended_as m.task held done (no_instance_fate cause) d
       (no_instance out verdict cause comes written (subst (λ (b : List ℕ). FileNames b (Err cause)) is (instance_found h r w all m.part s (Err cause) read text f finds)) refl)
   ended_named name held out verdict fate from s done to after comes written fate_written text f is (instance.has_instance i read finds n) not settled = ended_by name i fate from read done to after fate_written n not settled
 
   ended_filled : (job : Job) (name : List ℕ) (mode : ℕ) (input : I) (output : O) (held : List ℕ) (from : E) (opened made : FileSystem) (done : Done) (to : E) (after : FileSystem) → NewPart h m.part mode opened output made → r.has_failed input ≡ false → h.holds input ≡ held → IsJobOf m.task held job
-      → FillsByInstance (working {F = F} h r w e) job m name input output from made done to after → is_written done.fate ≡ false → is_settled done.fate ≡ true → Ended m.task held done
+      → FillsByInstance (working {F = F} h r w e) job m name input output from made done to after → is_written done.fate ≡ false → is_ended done.fate ≡ true → Ended m.task held done
   ended_filled job name mode input output held from opened made done to after part sound holds of_job (instance.not_done ending was_filled f undone told removes is) not settled =
       let d : HasDone job held (h.took f.written) ending = subst (λ (b : List ℕ). HasDone job b (h.took f.written) ending) holds (job_done h r w all job input output made ending was_filled sound part.new f) in
       let its : ending_fate ending ≡ verdict_fate d.verdict = ap ending_fate d.is in
@@ -118,7 +124,7 @@ module _ {I O E : Type 0} (F : Type 0) (h : Host I O) (r : Reader I) (w : Writer
       (followed h was_filled.now m.part whole.file leads whole.at whole.kind) whole.bytes names not settled
 
   ended_ready : (job : Job) (n : Named) (mode : ℕ) (from : E) (s : FileSystem) (result : Result Done PartThere) (to : E) (after : FileSystem) (done : Done) → IsUtf8 n.path → (f : FileAt h Followed s.now n.path) → IsJobOf m.task (s.now.bytes (number_of f.file)) job
-      → DoesByInstance (working {F = F} h r w e) job m n mode from s result to after → result ≡ Ok done → is_written done.fate ≡ false → is_settled done.fate ≡ true → Ended m.task (s.now.bytes (number_of f.file)) done
+      → DoesByInstance (working {F = F} h r w e) job m n mode from s result to after → result ≡ Ok done → is_written done.fate ≡ false → is_ended done.fate ≡ true → Ended m.task (s.now.bytes (number_of f.file)) done
   ended_ready job n mode from s result to after done text f of_job (instance.not_opened opens told is) ok not settled = unsettled done fates.Unread (same_ok result (without_name fates.Unread) done is ok) refl settled
   ended_ready job n mode from s result to after done text f of_job (instance.no_part input cause opened tried opens makes back tells) ok not settled =
       unsettled done fates.Unwritten (ends_unwritten e n.name cause from result to done tells ok) refl settled
@@ -127,10 +133,10 @@ module _ {I O E : Type 0} (F : Type 0) (h : Host I O) (r : Reader I) (w : Writer
       let o : IsOpened h r (s.now.bytes (number_of f.file)) input s opened = is_opened h r w n.path s input opened text f opens in
       subst (Ended m.task (s.now.bytes (number_of f.file))) (sym same)
       (ended_filled job n.name mode input output (s.now.bytes (number_of f.file)) from opened made became to after (new_part {F = F} h m.part mode opened output made makes) o.sound o.holds of_job fills
-      (sym (ap (λ (d : Done). is_written d.fate) same) ∙ not) (sym (ap (λ (d : Done). is_settled d.fate) same) ∙ settled))
+      (sym (ap (λ (d : Done). is_written d.fate) same) ∙ not) (sym (ap (λ (d : Done). is_ended d.fate) same) ∙ settled))
 
   pub ended : (n : Named) (mode : ℕ) (from : E) (s : FileSystem) (result : Result Done PartThere) (to : E) (after : FileSystem) (done : Done) → IsUtf8 n.path → (f : FileAt h Followed s.now n.path) → DoesUnnamed (working {F = F} h r w e) m n mode from s result to after → result ≡ Ok done
-      → is_written done.fate ≡ false → is_settled done.fate ≡ true → Ended m.task (s.now.bytes (number_of f.file)) done
+      → is_written done.fate ≡ false → is_ended done.fate ≡ true → Ended m.task (s.now.bytes (number_of f.file)) done
   ended n mode from s result to after done text f (instance.no_days cause finds told is) ok not settled =
       ended_as m.task (s.now.bytes (number_of f.file)) done (no_days_fate cause) (same_ok result (without_name (no_days_fate cause)) done is ok)
       (no_job_ends m.task (s.now.bytes (number_of f.file)) cause (job_found h r w all m.task n.path s (Err cause) after text f finds))

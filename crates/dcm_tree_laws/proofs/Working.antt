@@ -3,6 +3,7 @@ use Rattle.std.proofs.Common.{◌≡◌, ◌∙◌, refl, sym, ap, subst, inl, i
 use Rattle.std.specs.Prelude.{◌≢◌}
 use Rattle.std.specs.Io.KnownBytes.{append_known}
 use Rattle.std.specs.Str.{IsUtf8}
+use Rattle.std.proofs.lemmas.List.{append-nil}
 use Rattle.dcm_base.specs.Reading.Reads.{INPUT_LIMIT}
 use Rattle.dcm_deid.specs.declared.fate.Options.{Options}
 use Rattle.dcm_devices.specs.Writing.{Writer}
@@ -346,3 +347,26 @@ compared_same h r w all first second s same after held text too f g first_is sec
     (not_other h one other held z.first z.second z.first_how z.second_how (reads_not h r bytes.Anywhere one c.first_left z.first z.first_how z.reads_first) (reads_not h r bytes.Anywhere other c.second_left z.second z.second_how z.reads_second)
     (reads_left h (as_whole h r) w all bytes.Anywhere one c.first_left z.first z.first_how z.reads_first) (reads_left h (as_whole h r) w all bytes.Anywhere other c.second_left z.second z.second_how z.reads_second)
     (x.holds ∙ first_is) (y.holds ∙ second_is) fits)
+
+-- two files that are the same have the same bytes
+no_rest : (how : How) (rest : List ℕ) → how ≡ to_end → Allows how rest → rest ≡ []
+no_rest how rest is allowed = subst (λ (x : How). Allows x rest) is allowed
+
+ends_with : (whole front rest : List ℕ) → whole ≡ front ++ rest → rest ≡ [] → whole ≡ front
+ends_with whole front rest is none = is ∙ ap (λ (x : List ℕ). front ++ x) none ∙ append-nil front
+
+false_true : {A : Type 0} → true ≡ false → A
+false_true e = absurd (cc)
+
+pub compared_bytes : {I O : Type 0} (h : Host I O) (r : Reader I) (w : Writer O) → GivesAll h (as_whole h r) w → (first second : List ℕ) (s after : FileSystem) → IsUtf8 first → IsUtf8 second → (f : FileAt h Followed s.now first) → (g : FileAt h Followed s.now second)
+    → ComparesFiles (working_may h r w (may_do h)) (as_whole h r) first second s true after → s.now.bytes (number_of f.file) ≡ s.now.bytes (number_of g.file)
+compared_bytes h r w all first second s after text too f g (instance.no_first opens is) = false_true is
+compared_bytes h r w all first second s after text too f g (instance.no_second one mid tried opens fails back is) = false_true is
+compared_bytes h r w all first second s after text too f g (instance.both one other mid opened opens others c) =
+    let x : IsOpened h r (s.now.bytes (number_of f.file)) one s mid = is_opened h r w first s one mid text f opens in
+    let y : IsOpened h r (s.now.bytes (number_of g.file)) other s opened = is_opened h r w second s other opened too g (subst (λ (t : FileSystem). OpensFile (working_may h r w (may_do h)) second t (Some other) opened) x.same others) in
+    let z = c.compared in
+    let a : Left h one z.first z.first_how = reads_left h (as_whole h r) w all bytes.Anywhere one c.first_left z.first z.first_how z.reads_first in
+    let b : Left h other z.second z.second_how = reads_left h (as_whole h r) w all bytes.Anywhere other c.second_left z.second z.second_how z.reads_second in
+    sym x.holds ∙ ends_with (h.holds one) z.first a.rest a.whole (no_rest z.first_how a.rest z.answer_is.first_end a.allowed) ∙ z.answer_is.same
+    ∙ sym (ends_with (h.holds other) z.second b.rest b.whole (no_rest z.second_how b.rest z.answer_is.second_end b.allowed)) ∙ y.holds

@@ -76,7 +76,7 @@ module _ {S I O : Type 0} (may more : MayDo S I O) (also : Allows may more) wher
   removes_part part before after (parts.no_text t is) = parts.no_text t is
   removes_part part before after (parts.removed r t call) = parts.removed r t (also.removes before part r after call)
 
-  pub fills : (r : Reader I) (w : Writer O) (job : Job) (input : I) (output : O) (before : S) (ending : Ending) (after : S) → Fills may r w job input output before ending after → Fills more r w job input output before ending after
+  abbrev pub fills : (r : Reader I) (w : Writer O) (job : Job) (input : I) (output : O) (before : S) (ending : Ending) (after : S) → Fills may r w job input output before ending after → Fills more r w job input output before ending after
   fills r w job input output before ending after f = record {
     left = f.left;
     written = f.written;
@@ -90,7 +90,7 @@ module _ {S I O : Type 0} (may more : MayDo S I O) (also : Allows may more) wher
   moves_part part path before naming after (parts.moved call is) = parts.moved (also.moves before part path (Ok _) after call) is
   moves_part part path before naming after (parts.not_moved e call is) = parts.not_moved e (also.moves before part path (Err e) after call) is
 
-  clears_part : (naming : Naming) (part : List ℕ) (before after : S) → ClearsPart may naming part before after → ClearsPart more naming part before after
+  pub clears_part : (naming : Naming) (part : List ℕ) (before after : S) → ClearsPart may naming part before after → ClearsPart more naming part before after
   clears_part naming part before after (parts.moved is same) = parts.moved is same
   clears_part naming part before after (parts.removed is removes) = parts.removed is (removes_part part before after removes)
 
@@ -137,7 +137,7 @@ module _ {S I O F : Type 0} (may more : MayDo S I O) (also : Allows may more) (d
   gives_name part path base before naming after (parts.no_way x m n) = parts.no_way x (makes_way d e can path base before (Err x) after m) n
   gives_name part path base before naming after (parts.on_its_way has_way m g) = parts.on_its_way has_way (makes_way d e can path base before (Ok _) has_way m) (gives_second part path base has_way naming after g)
 
-  gives_free : (part path : List ℕ) (base : ℕ) (before : S) (naming : Naming) (after : S) → GivesFreeName may d part path base before naming after → GivesFreeName more e part path base before naming after
+  pub gives_free : (part path : List ℕ) (base : ℕ) (before : S) (naming : Naming) (after : S) → GivesFreeName may d part path base before naming after → GivesFreeName more e part path base before naming after
   gives_free part path base before naming after (instance.not_free place f nf is) = instance.not_free place (finds d e can.sees path base before place after f) nf is
   gives_free part path base before naming after (instance.free place looked f nf g) = instance.free place looked (finds d e can.sees path base before place looked f) nf (gives_name part path base looked naming after g)
 

@@ -1,9 +1,10 @@
 -- A run that names outputs by the instances in them, and a second one over what it left.
-use Rattle.std.specs.Prelude.{◌≡◌, ℕ, List, [], ◌++◌, Bool, true, false, None}
+use Rattle.std.specs.Prelude.{◌≢◌, ◌≡◌, ℕ, List, [], ◌++◌, Bool, true, false, None}
 use Rattle.std.specs.Io.KnownBytes.{append_known}
 use Rattle.dcm_devices.specs.Writing.{Writer}
 use Rattle.dcm_walk.specs.Folder.{WalksFolder}
 use Rattle.dcm_walk.specs.List.{WalksList}
+use Rattle.dcm_walk.specs.Names.{below}
 use Rattle.dcm_walk.specs.declared.visitor.What.TheVariants.{File}
 use Rattle.dcm_cli.specs.Calls.{Reader}
 use Rattle.dcm_trees.specs.declared.beginning.Begun.{Begun}
@@ -15,11 +16,11 @@ use Rattle.dcm_trees.specs.declared.run.TreeRun.{TreeRun}
 use Rattle.dcm_trees.specs.Fate.{word}
 use Rattle.dcm_trees.specs.Task.{Task, task_of}
 use Rattle.dcm_trees.specs.Tree.{VisitsAll, VisitsListed}
-use Rattle.dcm_trees.specs.Work.{row, output_of, visits_of}
+use Rattle.dcm_trees.specs.Work.{row, output_of, name_in, visits_of}
 use Rattle.dcm_tree_laws.specs.Again.{OfAll, sure}
 use Rattle.dcm_tree_laws.specs.Copies.{HasFile, Stands, again, IsAsItWas, FolderIsAsItWas, ListIsAsItWas}
 use Rattle.dcm_tree_laws.specs.Determined.{FollowsLinks, as_whole, working, working_folders}
-use Rattle.dcm_tree_laws.specs.FileSystem.{FileSystem, Tree, Host, at_path, folders_do}
+use Rattle.dcm_tree_laws.specs.FileSystem.{FileSystem, Tree, Host, place_of, at_path, folders_do}
 use Rattle.dcm_tree_laws.specs.Laws.{part_path}
 use Rattle.dcm_tree_laws.specs.OneRow.{RowsOf, no_visit, of_another, and_row}
 use Rattle.dcm_tree_laws.specs.Rows.{Visit, noted}
@@ -32,21 +33,32 @@ use Rattle.dcm_tree_laws.specs.Twice.{OfRows, FileIs}
 abbrev pub FileWasThere : {I O : Type 0} → Host I O → Tree → Visit → Type 0
 FileWasThere h start v = (mode : ℕ) → v.what ≡ File mode → HasFile h start v
 
+-- an output that was met is at another place than the part
+abbrev pub IsElsewhere : {I O : Type 0} → Host I O → (part output : List ℕ) → Visit → Done → Type 0
+IsElsewhere h part output v done =
+    place_of h (below output (name_in v.named.relative done.instance)) ≢ place_of h part
+
 -- the row of a file that has another fate may be another one in the next run
 abbrev pub is_settled : Fate → Bool
 is_settled fates.Written = true
 is_settled fates.Unplaced = true
+is_settled fates.There = true
 is_settled fates.Refused = true
 is_settled fates.Pixels = true
 is_settled fates.Unnamed = true
 is_settled _ = false
 
-abbrev pub IsSettled : Done → Type 0
-IsSettled done = is_settled done.fate ≡ true
+pub record IsSettled {I O : Type 0} (h : Host I O) (part output : List ℕ) (v : Visit) (done : Done) : Type 0 where
+  pub settled : is_settled done.fate ≡ true
+  pub elsewhere : done.fate ≡ fates.There → IsElsewhere h part output v done
+
+abbrev pub FileIsSettled : {I O : Type 0} → Host I O → (part output : List ℕ) → Visit → Done → Type 0
+FileIsSettled h part output v done = FileIs (IsSettled h part output v) v done
 
 -- what the row of a name says stands, where its file was there at the start
-abbrev pub WasCopied : {I O : Type 0} → Host I O → Task → (output : List ℕ) → (start now : Tree) → Visit → Done → Type 0
-WasCopied h task output start now v done = FileWasThere h start v → FileIs IsSettled v done
+abbrev pub WasCopied : {I O : Type 0} → Host I O → Task → (part output : List ℕ) → (start now : Tree) → Visit → Done
+    → Type 0
+WasCopied h task part output start now v done = FileWasThere h start v → FileIsSettled h part output v done
     → Stands h task output now v done
 
 -- the names in a folder were visited, these in this order; the manifest has their rows, and what these say stands for
@@ -61,7 +73,8 @@ pub record FolderHasCopies {I O F W E : Type 0} (h : Host I O) (reader : Reader 
   pub walks : WalksFolder (working_folders h (sure (folders_do {F = F} h)))
       (noted (visits_of (working {F = F} h reader output errors) m)) path begun.number
       opened ((v.start, from), []) before v.walked ((v.last, v.told), visits) after
-  pub rows : RowsOf (WasCopied h (task_of run.task) run.output.now before.now after.now) v.start.shared visits text
+  pub rows : RowsOf (WasCopied h (task_of run.task) (part_path run) run.output.now before.now after.now) v.start.shared
+      visits text
   pub manifest : m.contents left ≡ append_known (m.contents headed) text
 
 pub record ListHasCopies {I O F W E : Type 0} (h : Host I O) (reader : Reader I) (output : Writer O) (m : Writer W)
@@ -75,7 +88,8 @@ pub record ListHasCopies {I O F W E : Type 0} (h : Host I O) (reader : Reader I)
   pub walks : WalksList (working_folders h (sure (folders_do {F = F} h)))
       (noted (visits_of (working {F = F} h reader output errors) m)) (as_whole h reader).gets begun.number
       ((v.start, from), []) before input v.walked ((v.last, v.told), visits) after read
-  pub rows : RowsOf (WasCopied h (task_of run.task) run.output.now before.now after.now) v.start.shared visits text
+  pub rows : RowsOf (WasCopied h (task_of run.task) (part_path run) run.output.now before.now after.now) v.start.shared
+      visits text
   pub manifest : m.contents left ≡ append_known (m.contents headed) text
 
 -- at the end of a run that names outputs by the instances in them, was begun, and did not end before its last name,
@@ -119,9 +133,9 @@ rows_again (of_another earlier v rows none more) = rows_again rows
 rows_again (and_row earlier rest v done rows share so more is) =
     rows_again rows ++ row v.named.name (output_of v.named (again done)) (word (again done).fate)
 
--- a run wrote outputs of files that were there at its start, or could not for what they hold; and a second one, of the
--- same task and share and into the same folder, visits the same names: all is at its end as it was, and its rows are
--- those of the first, with `there` for `written` and `unplaced`
+-- each file of a first run was there at its start, and was written, or met its output, or ended without one for what
+-- it holds; and a second run, of the same task and share and into the same folder, visits the same names: all is at its
+-- end as it was, and its rows are those of the first, with `there` for `written` and `unplaced`
 abbrev pub SecondIsAsItWas : {I O W E : Type 0} → (F : Type 0) → Reader I → Writer O → Writer W → Writer E → Type 0
 SecondIsAsItWas {I} {O} {W} {E} F reader output m errors =
     (h : Host I O) (first second : TreeRun) (path : List ℕ) (begun rebegun : Begun) (opened reopened : F)
@@ -130,7 +144,7 @@ SecondIsAsItWas {I} {O} {W} {E} F reader output m errors =
     → second.options.part ≡ first.options.part
     → (v : VisitsAll (working h reader output errors) m first path begun opened headed from before status left to mid)
     → (x : FolderHasCopies h reader output m errors first path begun opened headed from before status left to mid v)
-    → OfRows (FileIs IsSettled) x.rows → OfAll (FileWasThere h before.now) x.visits
+    → OfRows (FileIsSettled h (part_path first) first.output.now) x.rows → OfAll (FileWasThere h before.now) x.visits
     → (y : IsAgainAsItWas h reader output m errors second path rebegun reopened reheaded refrom mid restatus releft reto
     after)
     → y.has.visits ≡ x.visits
@@ -155,7 +169,7 @@ SecondIsAsItWasOfList {I} {O} {W} {E} F reader output m errors =
     → (v : VisitsListed (working {F = F} h reader output errors) m first list begun input headed from before status left
     to mid read)
     → (x : ListHasCopies h reader output m errors first list begun input headed from before status left to mid read v)
-    → OfRows (FileIs IsSettled) x.rows → OfAll (FileWasThere h before.now) x.visits
+    → OfRows (FileIsSettled h (part_path first) first.output.now) x.rows → OfAll (FileWasThere h before.now) x.visits
     → (y : ListIsAgainAsItWas F h reader output m errors second list rebegun reinput reheaded refrom mid restatus releft
     reto after reread)
     → y.has.visits ≡ x.visits

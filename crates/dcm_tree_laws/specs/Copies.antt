@@ -142,12 +142,18 @@ pub record HasFile {I O : Type 0} (h : Host I O) (t : Tree) (v : Visit) : Type 0
   pub text : IsUtf8 v.named.path
   pub file : FileAt h Followed t v.named.path
 
+-- where a row said that an output was written, the next run says that it is there
+abbrev pub fate_again : Fate → Fate
+fate_again fates.Written = fates.There
+fate_again fates.Unplaced = fates.There
+fate_again fate = fate
+
 -- what a row says of a name still stands: its output is there, or it ends without one; or it is no file, or the index
 -- of a medium
 pub data Stands {I O : Type 0} (h : Host I O) (task : Task) (output : List ℕ) (t : Tree) (v : Visit) (done : Done)
     : Type 0 where
-  of_copy : (mode : ℕ) → v.what ≡ File mode → is_media_index v.named.relative ≡ false → is_written done.fate ≡ true
-      → HasCopyOf h task output t v.named.path done → Stands h task output t v done
+  of_copy : (mode : ℕ) → v.what ≡ File mode → is_media_index v.named.relative ≡ false
+      → fate_again done.fate ≡ fates.There → HasCopyOf h task output t v.named.path done → Stands h task output t v done
   unnamed : (mode : ℕ) → v.what ≡ File mode → is_media_index v.named.relative ≡ false → (f : HasFile h t v)
       → EndsUnnamed task (t.bytes (number_of f.file.file)) done.fate → is_written done.fate ≡ false
       → done ≡ without_name done.fate → Stands h task output t v done
@@ -155,12 +161,7 @@ pub data Stands {I O : Type 0} (h : Host I O) (task : Task) (output : List ℕ) 
       → done ≡ without_name fates.MediaIndex → Stands h task output t v done
   no_file : ((mode : ℕ) → v.what ≢ File mode) → done ≡ without_name (fate_of v.what) → Stands h task output t v done
 
--- where a row said that an output was written, the next run says that it is there
-abbrev pub fate_again : Fate → Fate
-fate_again fates.Written = fates.There
-fate_again fates.Unplaced = fates.There
-fate_again fate = fate
-
+-- and its row is
 abbrev pub again : Done → Done
 again done = record { fate = fate_again done.fate; instance = done.instance }
 
