@@ -122,8 +122,8 @@ pub fn names_are_shared()
     ensures output { OneOutput }
 {}
 
-/// Runs that share a tree leave the files that one run leaves. Runs of all shares are done in any order, each over what
-/// the one before left; all keep names, or all name outputs by the instances in them. At the path of the output of each
+/// Runs that share a tree leave what one run leaves. Runs of all shares are done in any order, each over what the one
+/// before left; all keep names, or all name outputs by the instances in them. At the path of the output of each
 /// file is then what one run of all names leaves there: what was there before, nothing, or a file of the same mode with
 /// the same bytes. At each other place is what was there, or a folder. So it is where no call fails that need not, and
 /// no run ends before its last name. Names that come to one output have one mode and the same bytes, and no output is
