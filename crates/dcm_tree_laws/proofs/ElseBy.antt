@@ -201,9 +201,9 @@ record Else {I O : Type 0} (h : Host I O) (folder : List ℕ) (first : Tree) (pl
   is : IsElse start now place
 
 module _ {I O F W E : Type 0} (h : Host I O) (r : Reader I) (w : Writer O) (m : Writer W) (e : Writer E) (keeps : Bool) (task : Task) (folder : List ℕ) (first : Tree) (place : List ℕ) (IsSparing : Visit → Type 0) (sparing : Sparing F h r w e keeps task folder first place IsSparing) where
-  visited_else : (number count : ℕ) (run : TreeRun) → IsRunOf keeps task folder number count run → (begun : Begun) → begun.part.items ≡ part_path run → (before done : FileSystem) → before.written ≡ None → KeepsAll h folder first before.now → (visits : List Visit) → OfAll IsSparing visits
-      → Visited (working {F = F} h r w e) m run begun before visits done → Else h folder first place before.now done.now
-  visited_else number count run is_run begun part_is before done quiet since visits others (in_folder path opened headed from status left to v walks stop) =
+  visited_else : (number count : ℕ) (run : TreeRun) → IsRunOf keeps task folder number count run → (begun : Begun) (headed left : W) → begun.part.items ≡ part_path run → (before done : FileSystem) → before.written ≡ None → KeepsAll h folder first before.now → (visits : List Visit) → OfAll IsSparing visits
+      → Visited (working {F = F} h r w e) m run begun headed before visits left done → Else h folder first place before.now done.now
+  visited_else number count run is_run begun headed left part_is before done quiet since visits others (in_folder path opened from status to v walks stop) =
       let shared : Shared = v.start.shared in
       let is : Known shared keeps = known keeps task folder number count run is_run begun.part.items shared v.begins.shares part_is in
       let out : (Of shared).output ≡ folder = output_is keeps task folder number count run is_run begun.part.items shared v.begins.shares in
@@ -213,7 +213,7 @@ module _ {I O F W E : Type 0} (h : Host I O) (r : Reader I) (w : Writer O) (m : 
       (visits_good {F = F} h r w e m keeps task folder first place IsSparing sparing shared is out its before) path begun.number opened ((v.start, from), []) before v.walked ((v.last, v.told), visits) done walks
       (first_good h folder first place IsSparing v.start from before quiet since) in
       record { keeps = good.keeps; is = good.left others stop }
-  visited_else number count run is_run begun part_is before done quiet since visits others (in_list list input headed from status left to read v walks stop) =
+  visited_else number count run is_run begun headed left part_is before done quiet since visits others (in_list list input from status to read v walks stop) =
       let shared : Shared = v.start.shared in
       let is : Known shared keeps = known keeps task folder number count run is_run begun.part.items shared v.begins.shares part_is in
       let out : (Of shared).output ≡ folder = output_is keeps task folder number count run is_run begun.part.items shared v.begins.shares in
@@ -228,7 +228,7 @@ module _ {I O F W E : Type 0} (h : Host I O) (r : Reader I) (w : Writer O) (m : 
   run_else number count start after since o =
       subst (λ (t : Tree). Else h folder first place start t) o.after_is
       (subst (λ (t : Tree). Else h folder first place t o.done.now) o.start_is
-      (visited_else number count o.run o.is_of o.begun o.part_is o.before o.done o.quiet (subst (KeepsAll h folder first) (sym o.start_is) since) o.visits o.are_so o.visited))
+      (visited_else number count o.run o.is_of o.begun o.headed o.left o.part_is o.before o.done o.quiet (subst (KeepsAll h folder first) (sym o.start_is) since) o.visits o.are_so o.visited))
 
   all_else : (count : ℕ) (numbers : List ℕ) (after : Tree) → Runs F h r w m e keeps task folder (OfAll IsSparing) count first numbers after → Else h folder first place first after
   all_else count numbers after (no_run none is) = subst (Else h folder first place first) (sym is) (record { keeps = keeps_itself h folder first; is = inl refl })

@@ -16,7 +16,6 @@ use Rattle.dcm_words.specs.Words.{Job}
 use Rattle.dcm_cli.specs.Calls.{Reader}
 use Rattle.dcm_cli.specs.declared.ending.Ending.{Ending}
 use Rattle.dcm_trees.specs.declared.fate.Fate.{Fate}
-use Rattle.dcm_trees.specs.declared.fate.Fate.TheVariants as fates
 use Rattle.dcm_trees.specs.declared.file.Done.{Done}
 use Rattle.dcm_trees.specs.declared.part.Naming.{Naming}
 use Rattle.dcm_trees.specs.declared.part.Naming.TheVariants.{Linked}
@@ -30,7 +29,7 @@ use Rattle.dcm_trees.specs.declared.task.NoDays.TheVariants as no_days
 use Rattle.dcm_trees.specs.Fate.{is_written}
 use Rattle.dcm_trees.specs.File as files
 use Rattle.dcm_trees.specs.File.{DoesReady, DoesFree, DoesPlaced, DoesNamed, DoesFile, DoesName, is_media_index, under_its_name}
-use Rattle.dcm_trees.specs.Lines.{ending_fate, verdict_fate, no_days_fate}
+use Rattle.dcm_trees.specs.Lines.{ending_fate, no_days_fate}
 use Rattle.dcm_trees.specs.Manner.{Manner}
 use Rattle.dcm_trees.specs.Part as parts
 use Rattle.dcm_trees.specs.Part.{MakesPart, Fills, GivesSecondName, GivesName, NamesOutput, FillsAndNames, TellsNoPart, naming_fate}
@@ -43,7 +42,7 @@ use Rattle.dcm_tree_laws.specs.FileSystem.{FileSystem, Tree, Host, number_of, at
 use Rattle.dcm_tree_laws.specs.Laws.{IsOutput}
 use Rattle.dcm_tree_laws.specs.Single.{IsJobOf}
 use Rattle.dcm_tree_laws.specs.Stays.{IsOfOutput}
-use Rattle.dcm_tree_laws.specs.Together.{TakesFolder, IsFree}
+use Rattle.dcm_tree_laws.specs.Together.{TakesFolder, IsFree, end_fate}
 use Rattle.dcm_tree_laws.proofs.Files.{path_is}
 use Rattle.dcm_tree_laws.proofs.Filling.{part_is_made, part_is_new, is_filled_as, is_output}
 use Rattle.dcm_tree_laws.proofs.Frees.{IsUntouched, free_stays}
@@ -177,11 +176,6 @@ abbrev pub as_any : {I O : Type 0} (h : Host I O) (r : Reader I) (w : Writer O) 
 as_any h r w job input output before ending after f = record { left = f.left; written = f.written; closed = f.closed; finished = f.finished; closes = f.closes.0; releases = f.releases }
 
 -- ---- how the bytes of a file end
-
--- what becomes of it
-abbrev pub end_fate : FileEnd → Fate
-end_fate (was_done output verdict) = verdict_fate verdict
-end_fate (no_job stop) = fates.Refused
 
 abbrev pub end_written : FileEnd → Bool
 end_written end = is_written (end_fate end)

@@ -53,6 +53,7 @@ pub mod FatesAs
 pub mod StagesAs
 pub mod Staged
 pub mod ElseBy
+pub mod ToldBy
 pub mod CopyLeft
 pub mod CopiesBy
 pub mod CopyMade
@@ -68,3 +69,4 @@ pub mod Placing
 pub mod Becomes
 pub mod FlowsBy
 pub mod TakenBy
+pub mod RowsToldBy

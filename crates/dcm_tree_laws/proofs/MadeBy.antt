@@ -95,7 +95,7 @@ of_fate result fate done is ok not written = not_written done.fate fate (ap (λ 
 no_ok : (result : Result Done PartThere) (p : PartThere) (done : Done) → result ≡ Err p → result ≡ Ok done → ⊥
 no_ok result p done a b = absurd (cc)
 
-its_own : (became : Result Fate PartThere) (result : Result Done PartThere) (done : Done) → result ≡ under_its_name became → result ≡ Ok done → done.instance ≡ None
+pub its_own : (became : Result Fate PartThere) (result : Result Done PartThere) (done : Done) → result ≡ under_its_name became → result ≡ Ok done → done.instance ≡ None
 its_own (Ok fate) result done is ok = ap (λ (d : Done). d.instance) (same_ok result (record { fate = fate; instance = None }) done is ok)
 its_own (Err p) result done is ok = absurd (no_ok result p done is ok)
 

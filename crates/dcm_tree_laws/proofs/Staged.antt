@@ -228,9 +228,9 @@ run_left h folder x IsSo IsDone IsBeside IsIts shared its before done last told 
     record { keeps_all = good.keeps; stage = left.stage; keeps = left.keeps; came = λ it s. left.came (its it) has s }
 
 module _ {I O F W E : Type 0} (h : Host I O) (r : Reader I) (w : Writer O) (m : Writer W) (e : Writer E) (keeps : Bool) (task : Task) (folder : List ℕ) (first : Tree) (x : Visit) (IsSo IsDone : Tree → Type 0) (IsBeside : Tree → Visit → Type 0) (leaving : Leaving F h r w e keeps task folder first x IsSo IsDone IsBeside) where
-  visited_left : (number count : ℕ) (run : TreeRun) → IsRunOf keeps task folder number count run → (begun : Begun) → begun.part.items ≡ part_path run → (before done : FileSystem) → before.written ≡ None → KeepsAll h folder first before.now → (visits : List Visit) → Has x visits → OfAll (IsBeside before.now) visits
-      → Visited (working {F = F} h r w e) m run begun before visits done → RunLeft h folder IsSo IsDone (is_of number count x.named.relative ≡ true) before.now done.now
-  visited_left number count run is_run begun part_is before done quiet since visits has beside (in_folder path opened headed from status left to v walks stop) =
+  visited_left : (number count : ℕ) (run : TreeRun) → IsRunOf keeps task folder number count run → (begun : Begun) (headed left : W) → begun.part.items ≡ part_path run → (before done : FileSystem) → before.written ≡ None → KeepsAll h folder first before.now → (visits : List Visit) → Has x visits → OfAll (IsBeside before.now) visits
+      → Visited (working {F = F} h r w e) m run begun headed before visits left done → RunLeft h folder IsSo IsDone (is_of number count x.named.relative ≡ true) before.now done.now
+  visited_left number count run is_run begun headed left part_is before done quiet since visits has beside (in_folder path opened from status to v walks stop) =
       let shared : Shared = v.start.shared in
       let is : Known shared keeps = known keeps task folder number count run is_run begun.part.items shared v.begins.shares part_is in
       let out : (Of shared).output ≡ folder = output_is keeps task folder number count run is_run begun.part.items shared v.begins.shares in
@@ -239,7 +239,7 @@ module _ {I O F W E : Type 0} (h : Host I O) (r : Reader I) (w : Writer O) (m : 
       (walks_do (Works {F = F} h) (only_quiet (Works {F = F} h) (works_quiet {F = F} h)) (StaysGood h folder x IsSo IsDone IsBeside shared before) (closed h folder x IsSo IsDone IsBeside shared before) (noted (visits_of (working {F = F} h r w e) m))
       (visits_good {F = F} h r w e m keeps task folder first x IsSo IsDone IsBeside leaving shared is out its before since) path begun.number opened ((v.start, from), []) before v.walked ((v.last, v.told), visits) done walks
       (first_good {F = F} h r w e m keeps task folder first x IsSo IsDone IsBeside leaving shared is out its v.start from before quiet refl))
-  visited_left number count run is_run begun part_is before done quiet since visits has beside (in_list list input headed from status left to read v walks stop) =
+  visited_left number count run is_run begun headed left part_is before done quiet since visits has beside (in_list list input from status to read v walks stop) =
       let shared : Shared = v.start.shared in
       let is : Known shared keeps = known keeps task folder number count run is_run begun.part.items shared v.begins.shares part_is in
       let out : (Of shared).output ≡ folder = output_is keeps task folder number count run is_run begun.part.items shared v.begins.shares in
@@ -253,7 +253,7 @@ module _ {I O F W E : Type 0} (h : Host I O) (r : Reader I) (w : Writer O) (m : 
   one_run number count start after since o =
       subst (λ (t : Tree). RunLeft h folder IsSo IsDone (is_of number count x.named.relative ≡ true) start t) o.after_is
       (subst (λ (t : Tree). RunLeft h folder IsSo IsDone (is_of number count x.named.relative ≡ true) t o.done.now) o.start_is
-      (visited_left number count o.run o.is_of o.begun o.part_is o.before o.done o.quiet (subst (KeepsAll h folder first) (sym o.start_is) since) o.visits o.are_so.0
+      (visited_left number count o.run o.is_of o.begun o.headed o.left o.part_is o.before o.done o.quiet (subst (KeepsAll h folder first) (sym o.start_is) since) o.visits o.are_so.0
       (subst (λ (t : Tree). OfAll (IsBeside t) o.visits) (sym o.start_is) (all_kept h folder IsBeside leaving.kept first start since o.visits o.are_so.1)) o.visited))
 
 -- ---- several runs

@@ -17,3 +17,4 @@ pub mod Copies
 pub mod Copied
 pub mod Flows
 pub mod Taken
+pub mod Told

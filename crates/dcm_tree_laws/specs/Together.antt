@@ -11,21 +11,26 @@ use Rattle.dcm_instance.specs.Uids.{Uids, instance_name}
 use Rattle.dcm_walk.specs.Folder.{WalksFolder}
 use Rattle.dcm_walk.specs.List.{WalksList}
 use Rattle.dcm_walk.specs.Names.{PATH_LIMIT, below}
+use Rattle.dcm_walk.specs.Visits.{Named}
 use Rattle.dcm_walk.specs.declared.visitor.What.TheVariants.{File}
 use Rattle.dcm_cli.specs.Calls.{Reader}
 use Rattle.dcm_cli.specs.declared.ending.Verdict.{Verdict}
 use Rattle.dcm_trees.specs.declared.beginning.Begun.{Begun}
+use Rattle.dcm_trees.specs.declared.fate.Fate.{Fate}
+use Rattle.dcm_trees.specs.declared.fate.Fate.TheVariants as fates
+use Rattle.dcm_trees.specs.declared.file.Done.{Done}
 use Rattle.dcm_trees.specs.declared.run.TreeRun.{TreeRun}
 use Rattle.dcm_trees.specs.Fate.{is_written}
-use Rattle.dcm_trees.specs.File.{is_media_index}
+use Rattle.dcm_trees.specs.File.{DoesName, is_media_index}
 use Rattle.dcm_trees.specs.Lines.{verdict_fate}
+use Rattle.dcm_trees.specs.Manner.{Manner}
 use Rattle.dcm_trees.specs.Run.{part_name}
 use Rattle.dcm_trees.specs.Task.{Task, task_of}
 use Rattle.dcm_trees.specs.Tree.{VisitsAll, VisitsListed}
 use Rattle.dcm_trees.specs.Work.{visits_of}
 use Rattle.dcm_trees.specs.World.{World}
 use Rattle.dcm_tree_laws.specs.Again.{OfAll}
-use Rattle.dcm_tree_laws.specs.Determined.{FileAt, ComesTo, working}
+use Rattle.dcm_tree_laws.specs.Determined.{FileAt, ComesTo, FileEnd, was_done, no_job, EndsAs, working}
 use Rattle.dcm_tree_laws.specs.FileSystem.{FileSystem, Tree, Host, number_of, place_of, at_path}
 use Rattle.dcm_tree_laws.specs.Laws.{part_path}
 use Rattle.dcm_tree_laws.specs.Rows.{Visit, noted}
@@ -131,17 +136,17 @@ pub record IsRunOf (keeps : Bool) (task : Task) (output : List ℕ) (number coun
 
 -- the names in a folder, or in a list, were visited to the last one, these in this order
 pub data Visited {I O F W E : Type 0} (w : World FileSystem I O F E) (m : Writer W) (run : TreeRun) (begun : Begun)
-    (before : FileSystem) (visits : List Visit) (after : FileSystem) : Type 0 where
-  in_folder : (path : List ℕ) (opened : F) (headed : W) (from : E) (status : ℕ) (left : W) (to : E)
+    (headed : W) (before : FileSystem) (visits : List Visit) (left : W) (after : FileSystem) : Type 0 where
+  in_folder : (path : List ℕ) (opened : F) (from : E) (status : ℕ) (to : E)
       (v : VisitsAll w m run path begun opened headed from before status left to after)
       → WalksFolder w.folders (noted (visits_of w m)) path begun.number opened ((v.start, from), []) before v.walked
       ((v.last, v.told), visits) after
-      → v.last.stop ≡ None → Visited w m run begun before visits after
-  in_list : (list : List ℕ) (input : I) (headed : W) (from : E) (status : ℕ) (left : W) (to : E) (read : I)
+      → v.last.stop ≡ None → Visited w m run begun headed before visits left after
+  in_list : (list : List ℕ) (input : I) (from : E) (status : ℕ) (to : E) (read : I)
       (v : VisitsListed w m run list begun input headed from before status left to after read)
       → WalksList w.folders (noted (visits_of w m)) w.reader.gets begun.number ((v.start, from), []) before input
       v.walked ((v.last, v.told), visits) after read
-      → v.last.stop ≡ None → Visited w m run begun before visits after
+      → v.last.stop ≡ None → Visited w m run begun headed before visits left after
 
 -- run `number` of `count` was begun, and did not end before its last name. This is so of the names that it visited
 pub record OneRun {I O W E : Type 0} (F : Type 0) (h : Host I O) (reader : Reader I) (output : Writer O) (m : Writer W)
@@ -157,7 +162,9 @@ pub record OneRun {I O W E : Type 0} (F : Type 0) (h : Host I O) (reader : Reade
   pub done : FileSystem
   pub after_is : done.now ≡ after
   pub visits : List Visit
-  pub visited : Visited (working {F = F} h reader output errors) m run begun before visits done
+  pub headed : W
+  pub left : W
+  pub visited : Visited (working {F = F} h reader output errors) m run begun headed before visits left done
   pub are_so : AreSo visits
 
 -- runs of these numbers, one after another, each over what the one before left
@@ -199,6 +206,34 @@ PartsAreOne {I} {O} {W} {E} F reader output m errors =
     → Runs F h reader output m errors true task folder (AreBeside h folder first x bytes) count first numbers after
     → OneRun F h reader output m errors true task folder (AreBeside h folder first x bytes) 1 1 first alone
     → IsSameAt after alone (place_of h (below folder x.named.relative))
+
+-- ---- what becomes of them
+
+-- a name that gives its output its own
+abbrev pub its_own : Fate → Done
+its_own fate = record { fate = fate; instance = None }
+
+-- what becomes of a file that ends so
+abbrev pub end_fate : FileEnd → Fate
+end_fate (was_done out verdict) = verdict_fate verdict
+end_fate (no_job stop) = fates.Refused
+
+-- what became of a file that gives its output its name is what its bytes end as
+pub record IsToldBy (task : Task) (bytes : List ℕ) (done : Done) : Type 0 where
+  pub end : FileEnd
+  pub ends : EndsAs task bytes end
+  pub is : done ≡ its_own (end_fate end)
+
+-- so it is of a file whose output is free, in whatever run it is done, and when
+abbrev pub FateIsTold : {I O E : Type 0} → (F : Type 0) → Reader I → Writer O → Writer E → Type 0
+FateIsTold {I} {O} {E} F reader output errors =
+    (h : Host I O) (m : Manner) (number : ℕ) (n : Named) (mode : ℕ) (bytes : List ℕ) (from : E) (before : FileSystem)
+    (done : Done) (to : E) (after : FileSystem) → TellsAll h output → m.keeps_names ≡ true
+    → m.part ≡ below m.output (part_name number) → before.written ≡ None
+    → IsNameOf h m.output before.now (record { named = n; what = File mode }) mode bytes
+    → IsFree h m.output n.relative before.now
+    → DoesName (working {F = F} h reader output errors) m n (File mode) from before (Ok done) to after
+    → IsToldBy m.task bytes done
 
 -- ---- outputs that are named by the instances in them
 

@@ -15,7 +15,8 @@ ghost use Rattle.dcm_tree_laws.specs.Part.{NoPartAfterRun, NoPartLeft, NoPartLef
 ghost use Rattle.dcm_tree_laws.specs.Shares.{ManifestOfShare, OneOutput, OneShare, RowsOfRuns};
 ghost use Rattle.dcm_tree_laws.specs.Single.{SingleRuns, SingleRunsOfList};
 ghost use Rattle.dcm_tree_laws.specs.Taken.{NothingTakenFlows};
-ghost use Rattle.dcm_tree_laws.specs.Together.{InstancesAreOne, NothingElse, NothingElseAs, PartsAreOne};
+ghost use Rattle.dcm_tree_laws.specs.Told.{RowsAreTold};
+ghost use Rattle.dcm_tree_laws.specs.Together.{FateIsTold, InstancesAreOne, NothingElse, NothingElseAs, PartsAreOne};
 ghost use Rattle.dcm_tree_laws.specs.Twice.{SecondIsStill};
 
 use dcm_base::{DeviceIn, DeviceOut};
@@ -135,15 +136,18 @@ pub fn names_are_shared()
     ensures output { OneOutput }
 {}
 
-/// Runs that share a tree leave the files that one run leaves. Runs of all shares are done in any order, each over what
-/// the one before left; all keep names, or all name outputs by the instances in them. At the path of the output of each
+/// Runs that share a tree leave what one run leaves. Runs of all shares are done in any order, each over what the one
+/// before left; all keep names, or all name outputs by the instances in them. At the path of the output of each
 /// file is then what one run of all names leaves there: what was there before, nothing, or a file of the same mode with
 /// the same bytes. At each other place is what was there, or a folder. So it is where no call fails that need not, and
 /// no run ends before its last name. Names that come to one output have one mode and the same bytes, and no output is
-/// on the way to another one.
+/// on the way to another one. What becomes of a name that its output keeps is told by what was there before the first
+/// run, and so is its row.
 pub fn parts_are_one<I: DeviceIn, O: DeviceOut, W: DeviceOut, E: DeviceOut, F>()
     ensures files { PartsAreOne F I.DeviceIn O.DeviceOut W.DeviceOut E.DeviceOut }
     ensures instances { InstancesAreOne F I.DeviceIn O.DeviceOut W.DeviceOut E.DeviceOut }
     ensures nothing_else { NothingElse F I.DeviceIn O.DeviceOut W.DeviceOut E.DeviceOut }
     ensures nothing_else_as { NothingElseAs F I.DeviceIn O.DeviceOut W.DeviceOut E.DeviceOut }
+    ensures fate { FateIsTold F I.DeviceIn O.DeviceOut E.DeviceOut }
+    ensures rows { RowsAreTold F I.DeviceIn O.DeviceOut W.DeviceOut E.DeviceOut }
 {}

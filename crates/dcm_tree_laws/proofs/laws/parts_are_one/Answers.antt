@@ -1,6 +1,8 @@
 use Rattle.dcm_cli.proofs.Passes.Readers.{members, writer}
 use Rattle.dcm_tree_laws.proofs.ElseBy as others
+use Rattle.dcm_tree_laws.proofs.RowsToldBy as rows
 use Rattle.dcm_tree_laws.proofs.TogetherBy as together
+use Rattle.dcm_tree_laws.proofs.ToldBy as told
 use Rattle.dcm_tree_laws.proofs.laws.parts_are_one.Goals as goal
 
 pub returns-clause-files : goal.returns-clause-files
@@ -18,3 +20,11 @@ returns-clause-instances g c = λ h task folder first x mode bytes out uids coun
 pub returns-clause-nothing_else_as : goal.returns-clause-nothing_else_as
 returns-clause-nothing_else_as g c = λ h task folder first place count numbers after tells plain no_part runs.
     others.nothing_else_as (members g.I.Device g.I.DeviceIn) (writer g.O.Device g.O.DeviceOut) (writer g.W.Device g.W.DeviceOut) (writer g.E.Device g.E.DeviceOut) h task folder first place count numbers after tells plain no_part runs
+
+pub returns-clause-fate : goal.returns-clause-fate
+returns-clause-fate g c = λ h m number n mode bytes from before done to after tells keeps part_is none named free does.
+    told.fate_is_told (members g.I.Device g.I.DeviceIn) (writer g.O.Device g.O.DeviceOut) (writer g.E.Device g.E.DeviceOut) h m number n mode bytes from before done to after tells keeps part_is none named free does
+
+pub returns-clause-rows : goal.returns-clause-rows
+returns-clause-rows g c = λ h task folder first visits became count numbers after tells each all once runs goes.
+    rows.rows_are_told (members g.I.Device g.I.DeviceIn) (writer g.O.Device g.O.DeviceOut) (writer g.W.Device g.W.DeviceOut) (writer g.E.Device g.E.DeviceOut) h task folder first visits became count numbers after tells each all once runs goes
