@@ -62,6 +62,16 @@ DATES = ([], ["+rl"], ["+rm", "-1234"])
 # as many edits as there may be, with the two that look at each element
 PATH_EDITS = 62
 
+# numbers of edits that are asked of each element, at all depths, and elements that each dictionary knows, by their group
+ERASED = 1, 8, 32, 62
+KNOWN = {
+    "0028": "0002 0004 0006 0008 0009 0010 0011 0030 0100 0101 0102 0103 1050 1051 1052 1053",
+    "0020": "0010 0011 0012 0013 0032 0037 0052 1041",
+    "0018": "0015 0050 0060 1020 1030 5100 9087",
+    "0010": "0010 0020 0030 0040 1010 1020 1030 4000",
+    "0008": "0005 0008 0012 0013 0020 0021 0022 0023 002A 0030 0031 0032 0033 0050 0060 0070 0080 0090 1030 103E 1090 2112 0102",
+}
+
 # elements of the structured report, and of the files of many that are empty
 REPORT_ELEMENTS = 200_000
 EMPTY = 1_000_000
@@ -308,6 +318,12 @@ def path_edits():
     return [word for path in paths for word in ("-m", f"{path}=another meaning")]
 
 
+def erased(count):
+    """Edits that erase so many elements wherever they are."""
+    tags = [f"({group},{element})" for group, elements in KNOWN.items() for element in elements.split()]
+    return [word for tag in tags[:count] for word in ("-ea", tag)]
+
+
 def make_dump(binary, path, dump):
     with open(dump, "wb") as out:
         subprocess.run([binary, "dcmdump", "+L", path], stdout=out, check=True)
@@ -399,9 +415,10 @@ def make_small_elements(binary, folder):
     label = f"-ma, -m and {PATH_EDITS} of -m with paths"
     modifications = [Work("dcmodify", report, edits, path("report"), path("output"), label)]
     one_edit = [Work("dcmodify", report, ["-m", "PatientName=Mark^Bench"], path("report"), path("output"))]
+    erasing = [Work("dcmodify", report, erased(count), path("report"), path("output"), f"{count} of -ea") for count in ERASED]
     identities = [Work("dcmdeid", frames, dates, path("frames"), path("output")) for dates in DATES]
     os.sync()
-    return dumps, others, one_edit + modifications, identities
+    return dumps, others, one_edit + modifications + erasing, identities
 
 
 # ---- processes
@@ -415,8 +432,12 @@ def spawn(words, output):
     return os.posix_spawn(words[0], words, os.environ, file_actions=[(os.POSIX_SPAWN_OPEN, 1, output, WRITE, 0o644)])
 
 
+# an edit that finds no place is told, and all else is done
+DONE, NO_PLACE = 0, 3
+
+
 def check_status(words, status):
-    if status != 0:
+    if os.waitstatus_to_exitcode(status) not in (DONE, NO_PLACE):
         sys.exit(f"status {os.waitstatus_to_exitcode(status)} of {' '.join(words)}")
 
 
