@@ -137,7 +137,7 @@ impl Cursor {
 
     /// Goes into a container.
     #[inline(always)]
-    fn enter_container<S: Sink>(
+    pub fn enter_container<S: Sink>(
         &mut self,
         opening: Opening,
         inner: Level,
@@ -161,7 +161,12 @@ impl Cursor {
 
     /// Goes out of the innermost container.
     #[inline(always)]
-    fn leave<S: Sink>(&mut self, opening: Opening, token: Token, sink: &mut S) -> Result<(), Halt>
+    pub fn leave<S: Sink>(
+        &mut self,
+        opening: Opening,
+        token: Token,
+        sink: &mut S,
+    ) -> Result<(), Halt>
         requires head { self.old.head.items ≡ [] }
         requires left { self.old.left ≡ 0 }
         requires outside { judging.LeadsTo self.old.position self.old.levels opening (drop 1 self.old.levels) }
