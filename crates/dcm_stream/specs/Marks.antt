@@ -4,6 +4,7 @@ use Rattle.dcm_base.specs.declared.level.Container.TheVariants.{Item as an_item,
 use Rattle.dcm_base.specs.declared.level.Level.{Level}
 use Rattle.dcm_base.specs.declared.syntax.Syntax.{Syntax}
 use Rattle.dcm_base.specs.Reading.Stop.{HeadBar}
+use Rattle.dcm_head.specs.declared.head.Head.{Head}
 use Rattle.dcm_stream.specs.declared.cursor_marks.Mark.{Mark}
 use Rattle.dcm_stream.specs.declared.cursor_marks.Mark.TheVariants as mark
 use Rattle.dcm_stream.specs.declared.judge.Opening.{Opening}
@@ -21,3 +22,8 @@ opening_of s mark.SequenceEnd = opening.End a_sequence
 abbrev pub IsMark : Level → List Level → (position : ℕ) → List ℕ → Mark → Type 0
 IsMark inner levels position bytes m =
     (bar : HeadBar) → Judges bar inner levels position bytes (judged.Opens (opening_of inner.syntax m) 8)
+
+-- bytes at a place begin with the head of a sequence with 12 bytes, which a sink takes
+abbrev pub IsSequence : HeadBar → Level → List Level → (position : ℕ) → List ℕ → Head × Syntax → Type 0
+IsSequence bar inner levels position bytes (head, s) =
+    Judges bar inner levels position bytes (judged.Opens (opening.Sequence head s) 12)

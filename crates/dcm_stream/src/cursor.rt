@@ -10,7 +10,7 @@ ghost use Rattle.dcm_stream.specs.WholeLeaf as whole;
 ghost use Rattle.dcm_base.specs.Reading.Reads as reads;
 
 use super::close::{close_full, closing_token};
-use super::judge::{Judged, Opening, judge, syntax_inside};
+use super::judge::{Judged, Opening, judge};
 use super::levels::{OpenLevels, level_at, passes};
 use super::machine::INPUT_LIMIT;
 use super::sign::OpenSign;
@@ -200,19 +200,12 @@ impl Cursor {
             Opening::Fragment(size) => {
                 self.enter_value(opening, size, Token::OpenFragment(size), sink)
             }
-            Opening::Sequence(head, syntax) => {
-                let inner = syntax_inside(syntax, head.vr);
-                let level = level_at(Container::Sequence, inner, head.length, begin);
-                self.enter_container(opening, level, Token::Open(head, syntax), sink)
-            }
+            Opening::Sequence(head, syntax) => self.enter_sequence(head, syntax, sink),
             Opening::FragmentList(head, syntax) => {
                 let level = level_at(Container::FragmentList, syntax, Length::Undefined, begin);
                 self.enter_container(opening, level, Token::Open(head, syntax), sink)
             }
-            Opening::Item(syntax, declared) => {
-                let level = level_at(Container::Item, syntax, declared, begin);
-                self.enter_container(opening, level, Token::OpenItem(declared), sink)
-            }
+            Opening::Item(syntax, declared) => self.enter_item(syntax, declared, sink),
             Opening::End(container) => self.leave(opening, closing_token(container), sink),
         }
     }

@@ -88,7 +88,7 @@ fn mark_in(inner: Level, levels: &OpenLevels, position: u64, bytes: &[u8]) -> Op
 impl Cursor {
     /// Goes into an item of a sequence.
     #[inline(never)]
-    fn enter_item<S: Sink>(
+    pub fn enter_item<S: Sink>(
         &mut self,
         syntax: Syntax,
         declared: Length,

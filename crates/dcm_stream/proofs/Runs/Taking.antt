@@ -1,5 +1,5 @@
 -- What a sink takes in parts.
-use Rattle.std.proofs.Common.{◌≡◌, List, [], ◌++◌, refl, ◌∙◌}
+use Rattle.std.proofs.Common.{◌≡◌, ℕ, List, [], ◌∷◌, ◌++◌, refl, sym, ap, ◌∙◌}
 use Rattle.std.specs.Prelude.{fold, Result, Ok, Err, OnOk, IsErr, Bool}
 use Rattle.dcm_base.specs.Steps.Atoms.{Atom}
 use Rattle.dcm_base.specs.Steps.Steps.{outputs}
