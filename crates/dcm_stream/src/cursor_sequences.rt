@@ -1,5 +1,6 @@
 // Sequences in explicit little endian (PS3.5 7.5).
-ghost use Rattle.std.specs.Prelude.{◌≡◌, ◌+◌, ◌<◌, ◌≤◌, [], false, length, Some, IfSome, IfOk};
+ghost use Rattle.std.specs.Prelude.{◌≡◌, ◌+◌, ◌<◌, ◌≤◌, ◌==◌, ◌&&◌, [], false, length, Some, IfSome, IfOk};
+ghost use Rattle.std.specs.List.{slice_index_or};
 ghost use Rattle.dcm_base.specs.Reading.Place as place;
 ghost use Rattle.dcm_base.specs.Reading.Reads as reads;
 ghost use Rattle.dcm_stream.specs.Judging as judging;
@@ -18,6 +19,7 @@ use dcm_head::{Head, HeadRead, LONG_HEAD, read_tag, read_tagged};
 /// Whether the bytes have the letters of a sequence after the tag.
 fn has_letters(bytes: &[u8]) -> bool
     requires { 8 ≤ length bytes.now }
+    ensures { result ≡ (slice_index_or bytes.now 4 0 == 83 && slice_index_or bytes.now 5 0 == 81) }
 {
     bytes[4] == b'S' && bytes[5] == b'Q'
 }
