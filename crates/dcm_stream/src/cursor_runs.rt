@@ -129,14 +129,6 @@ impl Cursor {
         if n > 0 {
             return Ok(n);
         }
-        let n = self.read_mark(bytes, sink)?;
-        if n > 0 {
-            return Ok(n);
-        }
-        let n = self.read_sequence(bytes, sink)?;
-        if n > 0 {
-            return Ok(n);
-        }
         self.read_head(bytes, sink)
     }
 }

@@ -19,9 +19,7 @@
 
 mod close;
 mod cursor;
-mod cursor_marks;
 mod cursor_runs;
-mod cursor_sequences;
 mod cursor_signs;
 mod judge;
 pub mod laws;
