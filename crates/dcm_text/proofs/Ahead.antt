@@ -1,20 +1,21 @@
 -- Characters in front of a text in UTF-8 that a dump shows as they are.
 use Rattle.std.proofs.Common.{◌≡◌, ℕ, ◌+◌, ◌-◌, ◌*◌, ◌/◌, ◌%◌, ◌≤◌, Bool, true, false, cond, List, [], ◌∷◌, ◌++◌, length, take, drop, map, Option, Some, None}
-use Rattle.std.proofs.Common.{refl, sym, ap, ◌∙◌, arith, append_assoc}
-use Rattle.std.specs.Prelude.{◌==◌, ◌&&◌, not, encode_utf8_all}
+use Rattle.std.proofs.Common.{refl, sym, ap, zero, suc, subst, ◌∙◌, arith, append_assoc}
+use Rattle.std.specs.Prelude.{◌==◌, ◌&&◌, not, slice_index_or, encode_utf8_all}
 use Rattle.std.specs.Char.{encode_utf8}
 use Rattle.std.specs.List.{list_all}
 use Rattle.std.specs.Str.{all_scalars}
 use Rattle.std.proofs.Math.Seq.{take-append_seam, drop-append_seam}
 use Rattle.std.proofs.lemmas.Bool.{cond-true, cond-false, and_parts}
 use Rattle.std.proofs.lemmas.Bool.Decides.{nat_tests}
-use Rattle.std.proofs.lemmas.List.{length-append}
+use Rattle.std.proofs.lemmas.List.{length-append, take_rest}
 use Rattle.std.proofs.lemmas.Str.{encode_ascii}
 use lib.Dec.{ltb}
 use lib.Utf8.{scalar}
 use Rattle.dcm_text.specs.declared.set.Halves.{Halves}
 use Rattle.dcm_text.specs.declared.set.TextKind.{TextKind}
 use Rattle.dcm_text.specs.declared.sets.Sets.{Sets}
+use Rattle.dcm_text.specs.Ascii.{is_ascii_byte}
 use Rattle.dcm_text.specs.Characters.{is_between, number_utf8, character_utf8, low_bits}
 use Rattle.dcm_text.specs.Decoding.{Piece, decoded_from}
 use Rattle.dcm_text.specs.First.{start_of}
@@ -98,6 +99,11 @@ three_shown a b c i j k h =
 
 -- ---- characters in front
 
+-- a text is its first byte and those after it
+pub after_first : (text : List ℕ) → 1 ≤ length text → text ≡ slice_index_or text 0 0 ∷ take (length text - 1) (drop 1 text)
+after_first [] l = absurd (omega (arith, l))
+after_first (b ∷ bs) l = ap (λ (x : List ℕ). b ∷ x) (sym (take_rest (b ∷ bs) 1))
+
 pub none_behind : (text : List ℕ) → AreBehind text text
 none_behind text = record { characters = []; are_scalars = refl; are_dumped = refl; whole = refl }
 
@@ -112,6 +118,55 @@ one_more text mid after one more =
           one.whole ∙ ap (λ (x : List ℕ). x ++ mid) (sym one.is_shown.is_bytes) ∙ ap (λ (x : List ℕ). encode_utf8 c ++ x) more.whole
           ∙ sym (append_assoc (encode_utf8 c) (encode_utf8_all more.characters) after);
     }
+
+-- one of them
+pub one_behind : (text after : List ℕ) → IsBehind text after → AreBehind text after
+one_behind text after one = one_more text after after one (none_behind after)
+
+-- these, and as many as there are behind them
+so_many : (cs : List ℕ) (text mid after : List ℕ) → all_scalars cs ≡ true → list_all is_dumped cs ≡ true → text ≡ encode_utf8_all cs ++ mid
+    → AreBehind mid after → AreBehind text after
+so_many [] text mid after s d w more = subst (λ (t : List ℕ). AreBehind t after) (sym w) more
+so_many (c ∷ cs) text mid after s d w more =
+    let scalars = and_parts (scalar c) (all_scalars cs) s in
+    let dumped = and_parts (is_dumped c) (list_all is_dumped cs) d in
+    let rest : List ℕ = encode_utf8_all cs ++ mid in
+    let shown : IsShown (encode_utf8 c) = record { character = c; is_scalar = scalars.0; is_dumped = dumped.0; is_bytes = refl } in
+    let one : IsBehind text rest = record {
+      front = encode_utf8 c;
+      is_shown = shown;
+      whole = w ∙ append_assoc (encode_utf8 c) (encode_utf8_all cs) mid;
+    } in
+    one_more text rest after one (so_many cs rest mid after scalars.1 dumped.1 refl more)
+
+pub many_more : (text mid after : List ℕ) → AreBehind text mid → AreBehind mid after → AreBehind text after
+many_more text mid after many more = so_many many.characters text mid after many.are_scalars many.are_dumped many.whole more
+
+-- a text whose first byte is a character
+pub one_front : (text rest : List ℕ) → 1 ≤ length text → IsShown (slice_index_or text 0 0 ∷ [])
+    → AreBehind (take (length text - 1) (drop 1 text)) rest → AreBehind text rest
+one_front text rest l shown more =
+    let after : List ℕ = take (length text - 1) (drop 1 text) in
+    let one : IsBehind text after = record { front = slice_index_or text 0 0 ∷ []; is_shown = shown; whole = after_first text l } in
+    one_more text after rest one more
+
+-- the same of one of more bytes, where there is one in front
+pub few_front : (text : List ℕ) (rest : List ℕ) → 1 ≤ length text
+    → IsBehind (slice_index_or text 0 0 ∷ take (length text - 1) (drop 1 text)) rest → AreBehind text rest
+few_front text rest l one = one_behind text rest (subst (λ (t : List ℕ). IsBehind t rest) (sym (after_first text l)) one)
+
+-- ---- bytes of ASCII in front
+
+one_ascii : (b : ℕ) → is_ascii_byte b ≡ true → IsShown (b ∷ [])
+one_ascii b i = one_shown b (grind (arith, nat_tests)) (grind (arith, nat_tests)) (grind (arith, nat_tests))
+
+pub ascii_behind : (n : ℕ) (v : List ℕ) → list_all is_ascii_byte (take n v) ≡ true → AreBehind v (drop n v)
+ascii_behind zero v e = none_behind v
+ascii_behind (suc n) [] e = none_behind []
+ascii_behind (suc n) (b ∷ bs) e =
+    let both = and_parts (is_ascii_byte b) (list_all is_ascii_byte (take n bs)) e in
+    let one : IsBehind (b ∷ bs) bs = record { front = b ∷ []; is_shown = one_ascii b both.0; whole = refl } in
+    one_more (b ∷ bs) bs (drop n bs) one (ascii_behind n bs both.1)
 
 -- they are the pieces in front of what is behind them
 pub are_passed : (sets : Sets) (kind : TextKind) (halves : Halves) (text window others after : List ℕ) (size : ℕ)

@@ -1,3 +1,4 @@
+pub mod AsciiFronts
 pub mod Terms
 pub mod Firsts
 pub mod Gaps

@@ -1,3 +1,4 @@
+pub mod Ascii
 pub mod Characters
 pub mod Sets
 pub mod Gb18030

@@ -1,11 +1,13 @@
 //! How far a text in UTF-8 is shown as it is.
-ghost use Rattle.std.specs.Prelude.{◌≡◌, ◌<◌, ◌∷◌, [], true, length, IfSome};
+ghost use Rattle.std.specs.Prelude.{◌≡◌, ◌<◌, ◌≤◌, ◌∷◌, [], true, length, IfSome};
 ghost use Rattle.dcm_text.specs.Characters.{is_between};
 ghost use Rattle.dcm_text.specs.Fronts.{IsShown, IsBehind, AreBehind, is_shown as shown};
 
+use crate::ascii::{LANES, ascii_of_eight};
 use crate::characters::character_utf8;
 use crate::quick::{begins_three, begins_two, goes_on};
 use crate::shown::is_dumped;
+use std::simd::prelude::*;
 
 /// Whether there is a character, and a dump shows it as it is.
 #[inline(always)]
@@ -75,18 +77,32 @@ fn behind_few(first: u8, after: &[u8]) -> Option<&[u8]>
     }
 }
 
-/// What is behind the first character of a text in UTF-8, where a dump shows it as it is. One of four bytes is not looked
-/// at.
+/// What is behind the bytes of ASCII in front that a dump shows as they are: eight are looked at together, as letters of
+/// ASCII come in runs. Fewer than eight bytes are not looked at.
+#[inline(always)]
+fn behind_ascii(text: &[u8]) -> &[u8]
+    ensures behind { AreBehind text.now result.now }
+    ensures fewer { length result.now ≤ length text.now }
+{
+    if text.len() < LANES {
+        return text;
+    }
+    let (_, rest) = text.split_at(ascii_of_eight(u8x8::from_slice(text)));
+    rest
+}
+
+/// What is behind the first character of a text in UTF-8, where a dump shows it as it is, and behind ASCII that follows
+/// one of ASCII. A first one of four bytes is not looked at.
 #[inline(always)]
 fn behind_shown(text: &[u8]) -> Option<&[u8]>
-    ensures behind { IfSome result (λ rest. IsBehind text.now rest.now) }
+    ensures behind { IfSome result (λ rest. AreBehind text.now rest.now) }
     ensures fewer { IfSome result (λ rest. length rest.now < length text.now) }
 {
     let [first, after @ ..] = text else {
         return None;
     };
     if is_one_shown(*first) {
-        Some(after)
+        Some(behind_ascii(after))
     } else {
         behind_few(*first, after)
     }

@@ -5,7 +5,8 @@
 //! - A `Decoder` takes a text in pieces of any size, and gives `Part`s: a character with its bytes, bytes without a
 //!   character, or a designation, which shows nothing. It holds at most three bytes, those of which nothing is decided yet.
 //! - `TextPieces` takes a text that is there as a whole, copies nothing, and gives the same.
-//! - `dumped` is what a dump shows of a part, and `in_cell` what a cell of a table does.
+//! - `dumped` is what a dump shows of a part, and `in_cell` what a cell of a table does. `ascii_of_eight` says how many of eight
+//!   bytes a dump shows as they are in any case.
 //!
 //! A text that is whole:
 //!
@@ -13,6 +14,7 @@
 //!     while let Some((part, rest)) = decoder.next(text, true) { text = rest; .. }
 #![tactic(auto)]
 
+mod ascii;
 mod characters;
 mod decoder;
 mod first;
@@ -28,6 +30,7 @@ mod shown;
 mod tables;
 mod text_pieces;
 
+pub use ascii::ascii_of_eight;
 pub use decoder::{Decoder, Part};
 pub use first::Meaning;
 pub use set::TextKind;

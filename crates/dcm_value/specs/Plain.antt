@@ -1,7 +1,6 @@
 -- Bytes of a text that are shown as they are.
-use Rattle.std.specs.Prelude.{ℕ, Bool, not, nat_lt, ◌||◌, ◌==◌, if◌then◌else◌, List}
-use Rattle.std.specs.Int.{w64, trailing_zeros}
-use Rattle.std.specs.List.{position_or_len}
+use Rattle.std.specs.Prelude.{ℕ, Bool, not, nat_lt, ◌||◌, ◌==◌, List}
+use Rattle.dcm_text.specs.Ascii as ascii
 
 -- controls, the percent sign and the closing bracket are not
 abbrev pub is_plain_byte : ℕ → Bool
@@ -9,12 +8,8 @@ is_plain_byte b = not (nat_lt b 32 || b == 127 || b == 37 || b == 93)
 
 -- nor, by Specific Character Set, any byte above 7E
 abbrev pub is_ascii_byte : ℕ → Bool
-is_ascii_byte b = not (nat_lt b 32 || nat_lt 126 b || b == 37 || b == 93)
+is_ascii_byte b = ascii.is_ascii_byte b
 
 -- how many bytes in front are so
 abbrev pub ascii_size : List ℕ → ℕ
-ascii_size v = position_or_len (λ b. not (is_ascii_byte b)) v
-
--- the place of the lowest bit that is set, of eight, or eight
-abbrev pub lowest_of_eight : ℕ → ℕ
-lowest_of_eight bits = if bits == 0 then 8 else trailing_zeros w64 bits
+ascii_size v = ascii.ascii_size v

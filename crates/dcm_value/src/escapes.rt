@@ -2,10 +2,11 @@
 ghost use Rattle.std.specs.Prelude.{◌≡◌, ◌<◌, ◌≤◌, ◌+◌, ◌*◌, ◌++◌, ◌/◌, ◌%◌, ◌==◌, ◌&&◌, if◌then◌else◌, [], ◌∷◌, length, drop, not, nat_lt};
 ghost use Rattle.std.specs.Prelude.{count_by, position};
 ghost use Rattle.dcm_base.specs.Dump.ValueText as spec;
-ghost use Rattle.dcm_value.specs.Plain.{is_plain_byte, is_ascii_byte, ascii_size, lowest_of_eight};
+ghost use Rattle.dcm_value.specs.Plain.{is_plain_byte, is_ascii_byte, ascii_size};
 ghost use Rattle.std.specs.List.{list_all, list_any};
 
 use arrayvec::ArrayVec;
+use dcm_text::ascii_of_eight;
 use std::simd::prelude::*;
 
 /// The bytes of a short text that are looked at together, as most texts are.
@@ -201,30 +202,6 @@ fn ascii_front_singly(bytes: &[u8]) -> usize
         Some(at) => at,
         None => bytes.len(),
     }
-}
-
-/// The place of the lowest bit that is set, of eight, or eight.
-#[inline(always)]
-fn lowest_set(bits: u64) -> usize
-    ensures { result ≡ lowest_of_eight bits }
-{
-    if bits == 0 {
-        TEXT_LANES
-    } else {
-        bits.trailing_zeros() as usize
-    }
-}
-
-/// How many of eight bytes in front are shown as they are, whatever Specific Character Set is in force.
-#[inline(always)]
-fn ascii_of_eight(bytes: u8x8) -> usize
-    ensures { result ≡ ascii_size bytes }
-{
-    let controls = bytes.simd_lt(u8x8::splat(32));
-    let high = bytes.simd_gt(u8x8::splat(LAST_ASCII));
-    let escaped = bytes.simd_eq(u8x8::splat(b'%')) | bytes.simd_eq(u8x8::splat(b']'));
-    let others = controls | high | escaped;
-    lowest_set(others.to_bitmask())
 }
 
 /// How many bytes in front are shown as they are, whatever Specific Character Set is in force. Eight bytes are looked at

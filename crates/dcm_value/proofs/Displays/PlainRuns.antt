@@ -17,6 +17,7 @@ use Rattle.dcm_text.specs.Laws.{as_itself}
 use Rattle.dcm_text.proofs.Runs.{two_pieces}
 use Rattle.dcm_text.proofs.Whole.{plain_first, plain_decoded}
 use Rattle.dcm_value.specs.Plain.{is_plain_byte, is_ascii_byte, ascii_size}
+use Rattle.dcm_text.proofs.AsciiFronts.{ascii_front, size_within}
 use Rattle.dcm_value.specs.Decoded.{backslashes}
 use Rattle.dcm_value.specs.DecodedProgress.{shown_pieces}
 use Rattle.dcm_value.proofs.Displays.PlainTexts.{plain_escaped}
@@ -24,18 +25,6 @@ use Rattle.dcm_value.proofs.Displays.DecodedRuns.{step_of, shown_joined, backsla
 use Rattle.dcm_value.proofs.Displays.DecodedAsBefore.{alike, all_as, text_plain, text_dumped, itself_counted}
 
 -- ---- the bytes in front
-
-pub ascii_front : (v : List ℕ) → list_all is_ascii_byte (take (ascii_size v) v) ≡ true
-ascii_front [] = refl
-ascii_front (b ∷ bs) = go (is_ascii_byte b) refl (ascii_front bs)
-  where
-    go : (t : Bool) → is_ascii_byte b ≡ t → list_all is_ascii_byte (take (ascii_size bs) bs) ≡ true
-        → list_all is_ascii_byte (take (cond (not (not t)) (1 + ascii_size bs) 0) (b ∷ bs)) ≡ true
-    go true e rest =
-        let more : 1 + ascii_size bs ≡ suc (ascii_size bs) = omega arith in
-        ap (λ n. list_all is_ascii_byte (take n (b ∷ bs))) more
-        ∙ ap (λ t. t && list_all is_ascii_byte (take (ascii_size bs) bs)) e ∙ rest
-    go false e rest = refl
 
 -- behind some of them
 pub size_behind : (v : List ℕ) (n : ℕ) → n ≤ length v → list_all is_ascii_byte (take n v) ≡ true → n + ascii_size (drop n v) ≡ ascii_size v
@@ -109,9 +98,6 @@ size_found v at e = go (nat_lt (ascii_size v) (length v)) e
     go : (t : Bool) → cond t (Some (ascii_size v)) None ≡ Some at → at ≡ ascii_size v
     go true h = let same : ascii_size v ≡ at = cc in sym same
     go false h = let e : at ≡ ascii_size v = cc in e
-
-size_within : (v : List ℕ) → ascii_size v ≤ length v
-size_within v = prefix_len-le-length (λ b. not (not (is_ascii_byte b))) v
 
 pub size_none : (v : List ℕ) → position (λ b. not (is_ascii_byte b)) v ≡ None → length v ≡ ascii_size v
 size_none v e = let h = not_less (ascii_size v) (length v) (go (nat_lt (ascii_size v) (length v)) refl e) in omega (arith, h, size_within v)

@@ -19,7 +19,7 @@ use Rattle.dcm_value.specs.Decoded.{goes_on, is_backslash, backslashes, cut_size
 use Rattle.dcm_value.specs.DecodedDisplay.{decoded_shortened}
 use Rattle.dcm_value.specs.NextPiece.{Follows, bytes_of, shown_of, count_of}
 use Rattle.dcm_value.proofs.Displays.DecodedEndings.{cut_bounds}
-use Rattle.dcm_value.proofs.Displays.PlainRuns.{ascii_front}
+use Rattle.dcm_text.proofs.AsciiFronts.{ascii_front}
 
 -- the ASCII in front of a window of a text
 pub front_plain : (rest window : List ℕ) (k size : ℕ) → window ≡ take k rest → size ≡ ascii_size window → size ≤ k

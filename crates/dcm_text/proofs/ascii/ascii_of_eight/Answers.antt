@@ -1,8 +1,8 @@
 use Rattle.std.proofs.Common.{◌≡◌, ℕ, List, ltb, eqb, cond, map, replicate, bit_or, refl}
 use Rattle.std.proofs.lemmas.Simd.{zip2_splat, zip2_splat_left}
 use lib.Lanes.{zip2}
-use Rattle.dcm_value.proofs.Displays.AsciiLanes.{joined, counted}
-use Rattle.dcm_value.proofs.escapes.ascii_of_eight.Goals as goal
+use Rattle.dcm_text.proofs.AsciiFronts.{joined, counted}
+use Rattle.dcm_text.proofs.ascii.ascii_of_eight.Goals as goal
 
 pub returns : goal.returns
 returns c =
