@@ -1,13 +1,11 @@
-use Rattle.std.proofs.Common.{◌≡◌, ◌==◌, ◌+◌, rules, sym, ap, subst, ◌∙◌, Bool, List, ℕ, ◌++◌, codes, cond, true, false, refl, length, Option, Some}
-use Rattle.std.specs.Prelude.{MatchOption, is_some, count_by, not, ◌&&◌, ◌||◌, nat_le}
-use Rattle.std.specs.List.{list_all}
-use Rattle.dcm_base.specs.Dump.ValueText.{is_single, padded, unpadded}
+use Rattle.std.proofs.Common.{◌≡◌, ◌==◌, ◌+◌, rules, sym, ap, subst, ◌∙◌, Bool, List, ℕ, ◌++◌, cond, false, length}
+use Rattle.std.specs.Prelude.{MatchOption, not, ◌&&◌, ◌||◌, nat_le}
+use Rattle.dcm_base.specs.Dump.ValueText.{is_single, padded}
 use Rattle.dcm_text.specs.Decoding.{Piece}
 use Rattle.dcm_text.specs.TextPieces.{pieces_left}
 use Rattle.dcm_value.specs.Decoded.{backslashes}
 use Rattle.dcm_value.specs.DecodedDisplay.{bracketed_pieces, decoded_display, decoded_count, decoded_shortened, is_short as short_mode}
 use Rattle.dcm_value.specs.DecodedProgress.{is_named}
-use Rattle.dcm_value.specs.Plain.{is_ascii_byte}
 use Rattle.dcm_value.proofs.Displays.DecodedPieces.{pieces_display, pieces_count}
 use Rattle.dcm_value.proofs.whole_decoded.append_decoded.Goals as goal
 
