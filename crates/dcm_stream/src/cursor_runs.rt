@@ -129,6 +129,14 @@ impl Cursor {
         if n > 0 {
             return Ok(n);
         }
+        let n = self.read_mark(bytes, sink)?;
+        if n > 0 {
+            return Ok(n);
+        }
+        let n = self.read_sequence(bytes, sink)?;
+        if n > 0 {
+            return Ok(n);
+        }
         self.read_head(bytes, sink)
     }
 }

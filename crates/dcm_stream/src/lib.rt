@@ -19,7 +19,9 @@
 
 mod close;
 mod cursor;
+mod cursor_marks;
 mod cursor_runs;
+mod cursor_sequences;
 mod cursor_signs;
 mod judge;
 pub mod laws;
