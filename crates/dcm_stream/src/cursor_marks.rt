@@ -87,7 +87,7 @@ fn mark_in(inner: Level, levels: &OpenLevels, position: u64, bytes: &[u8]) -> Op
 
 impl Cursor {
     /// Goes into an item of a sequence.
-    #[inline(never)]
+    #[inline(always)]
     pub fn enter_item<S: Sink>(
         &mut self,
         syntax: Syntax,
@@ -111,7 +111,7 @@ impl Cursor {
     }
 
     /// Goes out of an item.
-    #[inline(never)]
+    #[inline(always)]
     fn leave_item<S: Sink>(&mut self, sink: &mut S) -> Result<(), Halt>
         requires head { self.old.head.items ≡ [] }
         requires left { self.old.left ≡ 0 }
@@ -122,7 +122,7 @@ impl Cursor {
     }
 
     /// Goes out of a sequence.
-    #[inline(never)]
+    #[inline(always)]
     fn leave_sequence<S: Sink>(&mut self, sink: &mut S) -> Result<(), Halt>
         requires head { self.old.head.items ≡ [] }
         requires left { self.old.left ≡ 0 }

@@ -62,7 +62,7 @@ fn sequence_in<S: Sink>(
 
 impl Cursor {
     /// Goes into a sequence.
-    #[inline(never)]
+    #[inline(always)]
     pub fn enter_sequence<S: Sink>(
         &mut self,
         head: Head,
