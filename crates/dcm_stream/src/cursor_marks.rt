@@ -86,7 +86,7 @@ fn mark_in(inner: Level, levels: &OpenLevels, position: u64, bytes: &[u8]) -> Op
 }
 
 impl Cursor {
-    /// Goes into an item of a sequence.
+    /// Goes into an item of a sequence. It is inlined: the general way, which most sinks take, makes no call for it.
     #[inline(always)]
     pub fn enter_item<S: Sink>(
         &mut self,

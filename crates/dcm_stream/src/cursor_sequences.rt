@@ -61,7 +61,7 @@ fn sequence_in<S: Sink>(
 }
 
 impl Cursor {
-    /// Goes into a sequence.
+    /// Goes into a sequence. It is inlined: the general way, which most sinks take, makes no call for it.
     #[inline(always)]
     pub fn enter_sequence<S: Sink>(
         &mut self,
