@@ -115,8 +115,8 @@ impl Cursor {
     }
 
     /// Reads the mark or the head of a sequence that the bytes begin with by its own way, where it has one, and answers how
-    /// many bytes it has, or that it has none. Of all that it does it is the one call that is not inlined: one call for an
-    /// item costs less than the general way, and what reads heads stays small, also for sinks that do not want this.
+    /// many bytes it has, or that it has none. It is a call of its own: one for an item costs less than the general way, and
+    /// what reads heads stays small, also for sinks that do not want this.
     #[inline(never)]
     fn read_mark_or_sequence<S: Sink>(&mut self, bytes: &[u8], sink: &mut S) -> Result<usize, Halt>
         requires stands { spec.Stands (spec.reading self.old None) }
