@@ -1,6 +1,6 @@
 -- The rows of runs that name outputs by instances, some of which come to one output, are told by the names before.
 use Rattle.std.proofs.Common.{◌≡◌, ◌∙◌, refl, sym, ap, subst, inl, inr, ℕ, ◌≤◌, List, length, [], ◌∷◌, Bool, true, false, Option, Some, None, Ok}
-use Rattle.std.specs.Prelude.{◌≢◌, ◌&&◌, ◌||◌}
+use Rattle.std.specs.Prelude.{◌&&◌, ◌||◌}
 use Rattle.dcm_base.specs.Reading.Reads.{INPUT_LIMIT}
 use Rattle.dcm_devices.specs.Writing.{Writer}
 use Rattle.dcm_files.specs.declared.folders.Found.{Found}
@@ -10,13 +10,11 @@ use Rattle.dcm_walk.specs.Names.{below}
 use Rattle.dcm_walk.specs.Visits.{Named}
 use Rattle.dcm_walk.specs.declared.visitor.What.{What}
 use Rattle.dcm_cli.specs.Calls.{Reader}
-use Rattle.dcm_cli.specs.declared.ending.Verdict.{Verdict}
 use Rattle.dcm_trees.specs.declared.fate.Fate.{Fate}
 use Rattle.dcm_trees.specs.declared.fate.Fate.TheVariants as fates
 use Rattle.dcm_trees.specs.declared.file.Done.{Done}
 use Rattle.dcm_trees.specs.Fate.{is_written, fate_of}
 use Rattle.dcm_trees.specs.File.{DoesName, is_media_index}
-use Rattle.dcm_trees.specs.Lines.{verdict_fate}
 use Rattle.dcm_trees.specs.Manner.{Manner}
 use Rattle.dcm_trees.specs.Run.{part_name}
 use Rattle.dcm_trees.specs.Task.{Task}
@@ -27,7 +25,7 @@ use Rattle.dcm_tree_laws.specs.Determined.{ComesTo, working}
 use Rattle.dcm_tree_laws.specs.FileSystem.{FileSystem, Tree, Host, number_of, place_of, at_path}
 use Rattle.dcm_tree_laws.specs.Rows.{Visit}
 use Rattle.dcm_tree_laws.specs.Single.{TellsAll}
-use Rattle.dcm_tree_laws.specs.Together.{HasOwnPlace, IsFree, HasBytes, NamesInstance, IsInstanceOf, Has}
+use Rattle.dcm_tree_laws.specs.Together.{IsFree, HasBytes, NamesInstance, IsInstanceOf, Has}
 use Rattle.dcm_tree_laws.specs.ToldAs.{HasFileAt, IsToldAs, told_as_no_file, told_as_index, told_as_unnamed, told_as_free, told_as_there, told_as_occupied, AreAsideAs}
 use Rattle.dcm_tree_laws.proofs.CopyMade.{CopyMade, copy_made}
 use Rattle.dcm_tree_laws.proofs.EndsAs.{PlacedAs}

@@ -1,6 +1,6 @@
 -- The rows of runs that keep names, some of which come to one output, are told by the names before.
-use Rattle.std.proofs.Common.{◌≡◌, ◌∙◌, refl, sym, ap, subst, ℕ, List, ◌∷◌, Bool, true, false, Option, Some, None, Ok}
-use Rattle.std.specs.Prelude.{◌≢◌, ◌&&◌, ◌||◌}
+use Rattle.std.proofs.Common.{◌≡◌, ◌∙◌, refl, sym, ap, subst, ℕ, List, ◌∷◌, Bool, true, false, Option, None, Ok}
+use Rattle.std.specs.Prelude.{◌&&◌, ◌||◌}
 use Rattle.arrayvec.specs.ArrayVec.{ArrayVec}
 use Rattle.dcm_devices.specs.Writing.{Writer}
 use Rattle.dcm_walk.specs.Names.{below}
@@ -21,7 +21,7 @@ use Rattle.dcm_tree_laws.specs.FileSystem.{FileSystem, Tree, Host}
 use Rattle.dcm_tree_laws.specs.Laws.{IsOutput}
 use Rattle.dcm_tree_laws.specs.Rows.{Visit}
 use Rattle.dcm_tree_laws.specs.Single.{TellsAll}
-use Rattle.dcm_tree_laws.specs.Together.{HasOwnPlace, IsFree, IsNameOf, Has, end_fate}
+use Rattle.dcm_tree_laws.specs.Together.{HasOwnPlace, IsFree, IsNameOf, end_fate}
 use Rattle.dcm_tree_laws.specs.Told.{IsTold, told_no_file, told_index, told_there, told_free, AreAside}
 use Rattle.dcm_tree_laws.proofs.BehindAs.{of_all, no_output}
 use Rattle.dcm_tree_laws.proofs.Ends.{one_end}

@@ -1,5 +1,5 @@
 -- What becomes of a file whose output is named by the instance in it is told by its bytes, and by what is there.
-use Rattle.std.proofs.Common.{◌≡◌, ◌∙◌, refl, sym, ap, subst, ℕ, ◌+◌, ◌≤◌, List, length, Bool, true, false, Some, None, Result, Ok, Err}
+use Rattle.std.proofs.Common.{◌≡◌, ◌∙◌, refl, sym, ap, subst, ℕ, ◌+◌, ◌≤◌, List, length, Bool, true, false, None, Result, Ok, Err}
 use Rattle.std.specs.Prelude.{◌≢◌, nat_le}
 use Rattle.std.specs.Str.{IsUtf8}
 use Rattle.dcm_base.specs.Reading.Reads.{INPUT_LIMIT}
@@ -13,7 +13,6 @@ use Rattle.dcm_walk.specs.Visits.{Named}
 use Rattle.dcm_walk.specs.declared.visitor.What.TheVariants.{File}
 use Rattle.dcm_words.specs.Words.{Job}
 use Rattle.dcm_cli.specs.Calls.{Reader}
-use Rattle.dcm_cli.specs.declared.ending.Ending.{Ending}
 use Rattle.dcm_cli.specs.declared.ending.Verdict.{Verdict}
 use Rattle.dcm_trees.specs.declared.fate.Fate.{Fate}
 use Rattle.dcm_trees.specs.declared.fate.Fate.TheVariants as fates

@@ -1,6 +1,6 @@
 -- The rows of runs of all shares that name outputs by the instances in them are told by what was there before.
-use Rattle.std.proofs.Common.{◌≡◌, ◌∙◌, refl, sym, ap, subst, inl, inr, ℕ, ◌≤◌, List, length, Bool, true, false, Option, Some, None, Result, Ok}
-use Rattle.std.specs.Prelude.{◌≢◌, nat_le, if◌then◌else◌}
+use Rattle.std.proofs.Common.{◌≡◌, ◌∙◌, refl, sym, ap, subst, inl, inr, ℕ, List, length, Bool, true, false, Some, None, Ok}
+use Rattle.std.specs.Prelude.{nat_le, if◌then◌else◌}
 use Rattle.std.specs.Str.{IsUtf8}
 use Rattle.dcm_devices.specs.Writing.{Writer}
 use Rattle.dcm_files.specs.declared.folders.Links.TheVariants.{Followed}
@@ -10,7 +10,6 @@ use Rattle.dcm_walk.specs.Visits.{Named}
 use Rattle.dcm_walk.specs.declared.visitor.What.{What}
 use Rattle.dcm_walk.specs.declared.visitor.What.TheVariants.{File}
 use Rattle.dcm_cli.specs.Calls.{Reader}
-use Rattle.dcm_cli.specs.declared.ending.Verdict.{Verdict}
 use Rattle.dcm_trees.specs.declared.fate.Fate.{Fate}
 use Rattle.dcm_trees.specs.declared.file.Done.{Done}
 use Rattle.dcm_trees.specs.Fate.{has_output, word}
@@ -18,16 +17,15 @@ use Rattle.dcm_trees.specs.File.{DoesName, is_media_index}
 use Rattle.dcm_trees.specs.Manner.{Manner}
 use Rattle.dcm_trees.specs.Run.{part_name}
 use Rattle.dcm_trees.specs.Task.{Task}
-use Rattle.dcm_trees.specs.Work.{name_in, output_of}
-use Rattle.dcm_tree_laws.specs.Again.{IsThere}
+use Rattle.dcm_trees.specs.Work.{name_in}
 use Rattle.dcm_tree_laws.specs.Copies.{IsNamedBy, SameRow}
 use Rattle.dcm_tree_laws.specs.Determined.{as_whole, working}
 use Rattle.dcm_tree_laws.specs.FileSystem.{FileSystem, Tree, Host, place_of}
 use Rattle.dcm_tree_laws.specs.Rows.{Visit}
 use Rattle.dcm_tree_laws.specs.Single.{TellsAll}
-use Rattle.dcm_tree_laws.specs.Together.{HasOwnPlace, IsFree, IsAside, HasBytes, HasPlainParts, NamesInstance, IsInstanceOf, IsOpen, OneRun, Runs, no_run, and_run}
+use Rattle.dcm_tree_laws.specs.Together.{HasOwnPlace, IsFree, IsAside, HasBytes, HasPlainParts, NamesInstance, IsInstanceOf, IsOpen, Runs, no_run, and_run}
 use Rattle.dcm_tree_laws.specs.Told.{EachRun}
-use Rattle.dcm_tree_laws.specs.ToldAs.{IsFileOf, HasFileAt, IsToldAs, told_as_no_file, told_as_index, told_as_unnamed, told_as_free, told_as_there, told_as_occupied, HasNoOutput, none_of_no_file, none_of_index, none_of_unnamed, AreAsideAs, one_has_none, other_has_none, both_aside_as, RowsAreToldAs}
+use Rattle.dcm_tree_laws.specs.ToldAs.{HasFileAt, IsToldAs, told_as_no_file, told_as_index, told_as_unnamed, told_as_free, told_as_there, told_as_occupied, HasNoOutput, none_of_no_file, none_of_index, none_of_unnamed, AreAsideAs, one_has_none, other_has_none, both_aside_as, RowsAreToldAs}
 use Rattle.dcm_tree_laws.proofs.EndsAs.{EndsTold, PlacedAs, ends_told, is_unnamed, is_placed}
 use Rattle.dcm_tree_laws.proofs.Fates.{Frees}
 use Rattle.dcm_tree_laws.proofs.FatesAs.{names_once}
