@@ -93,7 +93,7 @@ earlier_named h k bytes t u done same ends = subst (λ (s : FileSystem). EndsNam
 
 module _ {I O F : Type 0} (h : Host I O) (r : Reader I) (w : Writer O) (k : Manner) (part_text : IsUtf8 k.part) where
   -- the part gets its name where that is free
-  links : (IsWhole : ℕ → List ℕ → Type 0) (path relative bytes : List ℕ) → path ≡ below k.output relative → Frees h k relative → (start before : FileSystem) (naming : Naming) (after : FileSystem) → IsReady h IsWhole k.part k.output bytes start before → IsFree h k.output relative before.now
+  pub links : (IsWhole : ℕ → List ℕ → Type 0) (path relative bytes : List ℕ) → path ≡ below k.output relative → Frees h k relative → (start before : FileSystem) (naming : Naming) (after : FileSystem) → IsReady h IsWhole k.part k.output bytes start before → IsFree h k.output relative before.now
       → GivesFreeName (working_may h r w (may_do h)) (Works {F = F} h) k.part path (length k.output + 1) before naming after → naming ≡ Linked
   links IsWhole path relative bytes is clear start before naming after i free (instance.not_free place f nf n) =
       true_false (is_free place) (finds_free {F = F} h k.output relative path is before place after free (sures.finds (Works {F = F} h) (sure (folders_do {F = F} h)) (working_sure {F = F} h).sees path (length k.output + 1) before place after f)) nf
@@ -152,7 +152,7 @@ module _ {I O F E : Type 0} (h : Host I O) (r : Reader I) (w : Writer O) (e : Wr
       (λ relative free clear. then_free h k relative clear made.now was_filled.now (filled h (as_whole h r) w k relative job input output made ending was_filled ⊥ over)
       (then_free h k relative clear opened.now made.now (made_part {F = F} h k.part k.output relative ⊥ mode opened output made makes) free)) names
 
-  no_part_as : {A : Type 0} (name : List ℕ) (mode : ℕ) (before : FileSystem) (cause : NoPart) (tried : FileSystem) (from : E) (result : Result Done PartThere) (to : E) (done : Done) → MakesPart (Works {F = F} h) k.part mode before (Err cause) tried → EndsWithoutPart e name cause from result to → result ≡ Ok done → A
+  pub no_part_as : {A : Type 0} (name : List ℕ) (mode : ℕ) (before : FileSystem) (cause : NoPart) (tried : FileSystem) (from : E) (result : Result Done PartThere) (to : E) (done : Done) → MakesPart (Works {F = F} h) k.part mode before (Err cause) tried → EndsWithoutPart e name cause from result to → result ≡ Ok done → A
   no_part_as name mode before cause tried from result to done makes (instance.ended became (parts.of_another p c t is) x) ok = absurd (no_err result p done (x ∙ ap instance.unnamed is) ok)
   no_part_as name mode before cause tried from result to done makes (instance.ended became (parts.told c t is) x) ok = absurd (part_not {F = F} h k.part mode before cause tried part_text makes c)
 

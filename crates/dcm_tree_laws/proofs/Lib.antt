@@ -69,4 +69,10 @@ pub mod Placing
 pub mod Becomes
 pub mod FlowsBy
 pub mod TakenBy
+pub mod Telling
 pub mod RowsToldBy
+pub mod EndsAs
+pub mod ToldAsBy
+pub mod Following
+pub mod BehindAs
+pub mod BehindBy

@@ -62,7 +62,7 @@ true_false b e f = absurd (cc)
 same_some : (o : Option Found) (a b : Found) → o ≡ Some a → o ≡ Some b → a ≡ b
 same_some o a b e f = cc
 
-same_bytes : {I O : Type 0} (h : Host I O) (output : List ℕ) (t : Tree) (v : Visit) (a b : List ℕ) → HasBytes h output t v a → HasBytes h output t v b → a ≡ b
+pub same_bytes : {I O : Type 0} (h : Host I O) (output : List ℕ) (t : Tree) (v : Visit) (a b : List ℕ) → HasBytes h output t v a → HasBytes h output t v b → a ≡ b
 same_bytes h output t v a b x y = sym x.bytes_are ∙ ap (λ (f : Found). t.bytes (number_of f)) (same_some (t.at (h.leads Followed v.named.path)) x.file.file y.file.file x.file.is y.file.is) ∙ y.bytes_are
 
 none_some : {A : Type 0} (o : Option (ArrayVec ℕ)) (a : ArrayVec ℕ) → o ≡ None → o ≡ Some a → A
@@ -114,11 +114,11 @@ module _ {I O : Type 0} (h : Host I O) (k : Manner) (number : ℕ) (part_is : k.
   by_part : ((relative : List ℕ) → Touches h k.part k.output relative ⊥ before.now after.now) → IsFree h k.output (instance_name uids) before.now → IsFree h k.output (instance_name uids) after.now
   by_part touches free = free_stays h k.part k.output (instance_name uids) (instance_name uids) ⊥ (own h k.part k.output number part_is (instance_name uids) place ⊥ (λ it. it)) before.now after.now (touches (instance_name uids)) free
 
-  free_unnamed : ((its : List ℕ) (other : Uids) → NamesInstance k.task bytes its other → ⊥) → EndsNamed h k bytes before.now done → TouchesAs h k done before after → IsFree h k.output (instance_name uids) before.now → IsFree h k.output (instance_name uids) after.now
+  pub free_unnamed : ((its : List ℕ) (other : Uids) → NamesInstance k.task bytes its other → ⊥) → EndsNamed h k bytes before.now done → TouchesAs h k done before after → IsFree h k.output (instance_name uids) before.now → IsFree h k.output (instance_name uids) after.now
   free_unnamed none ends (part_alone is touches) free = by_part touches free
   free_unnamed none ends (at_instance relative is touches) free = absurd (no_instance h k bytes before done relative none is ends)
 
-  free_aside : (its : List ℕ) (other : Uids) → NamesInstance k.task bytes its other → IsAside h k.output (instance_name uids) (instance_name other) → IsAside h k.output (instance_name other) (instance_name uids) → EndsNamed h k bytes before.now done → TouchesAs h k done before after
+  pub free_aside : (its : List ℕ) (other : Uids) → NamesInstance k.task bytes its other → IsAside h k.output (instance_name uids) (instance_name other) → IsAside h k.output (instance_name other) (instance_name uids) → EndsNamed h k bytes before.now done → TouchesAs h k done before after
       → IsFree h k.output (instance_name uids) before.now → IsFree h k.output (instance_name uids) after.now
   free_aside its other names a b ends (part_alone is touches) free = by_part touches free
   free_aside its other names a b ends (at_instance relative is touches) free =
@@ -176,7 +176,7 @@ module _ {I O F E : Type 0} (h : Host I O) (r : Reader I) (w : Writer O) (e : Wr
       }
 
   -- a file that is not its own, and is done by its bytes
-  by_bytes : (n : Named) (what : What) (bytes : List ℕ) (from : E) (before : FileSystem) (done : Done) (to : E) (after : FileSystem) (b : Bool) → is_media_index n.relative ≡ b → before.written ≡ None → HasBytes h k.output before.now (visit_of n what) bytes
+  pub by_bytes : (n : Named) (what : What) (bytes : List ℕ) (from : E) (before : FileSystem) (done : Done) (to : E) (after : FileSystem) (b : Bool) → is_media_index n.relative ≡ b → before.written ≡ None → HasBytes h k.output before.now (visit_of n what) bytes
       → DoesName (working {F = F} h r w e) k n what from before (Ok done) to after → (EndsNamed h k bytes before.now done → TouchesAs h k done before after → IsFree h k.output (instance_name uids) before.now → IsFree h k.output (instance_name uids) after.now)
       → IsFree h k.output (instance_name uids) before.now → IsFree h k.output (instance_name uids) after.now
   by_bytes n what bytes from before done to after true index none has does frees free = subst (λ (s : FileSystem). IsFree h k.output (instance_name uids) s.now) (sym (index_same {F = F} h r w e k n what from before (Ok done) to after index does)) free

@@ -47,7 +47,7 @@ same_written : (v w : Verdict) (b : Bool) → v ≡ w → is_written (verdict_fa
 same_written v w b is written = ap (λ (x : Verdict). is_written (verdict_fate x)) is ∙ written
 
 -- where it has no job
-no_job_fate : (task : Task) (held : List ℕ) (fate : Fate) (cause : NoDays) → EndsUnnamed task held fate → JobIs task held (Err cause) → no_days_fate cause ≡ fate
+pub no_job_fate : (task : Task) (held : List ℕ) (fate : Fate) (cause : NoDays) → EndsUnnamed task held fate → JobIs task held (Err cause) → no_days_fate cause ≡ fate
 no_job_fate task held fate (days.Refused stop) (no_days other none is) found = sym is
 no_job_fate task held fate (days.Refused stop) (not_done output verdict x not is) found = has_days task held x.job stop x.is_job found
 no_job_fate task held fate (days.Refused stop) (no_instance output verdict cause x done names is) found = has_days task held x.job stop x.is_job found
@@ -55,7 +55,7 @@ no_job_fate task held fate (days.Unread count) ends found = absurd found
 no_job_fate task held fate days.Unopened ends found = absurd found
 
 -- where that is not done
-not_done_fate : (task : Task) (held out : List ℕ) (v : Verdict) (fate : Fate) → EndsUnnamed task held fate → ComesTo task held out v → is_written (verdict_fate v) ≡ false → verdict_fate v ≡ fate
+pub not_done_fate : (task : Task) (held out : List ℕ) (v : Verdict) (fate : Fate) → EndsUnnamed task held fate → ComesTo task held out v → is_written (verdict_fate v) ≡ false → verdict_fate v ≡ fate
 not_done_fate task held out v fate (no_days stop none is) x not = has_days task held x.job stop x.is_job none
 not_done_fate task held out v fate (not_done output verdict y no_one is) x not = ap verdict_fate (comes_once task held out output v verdict x y).1 ∙ sym is
 not_done_fate task held out v fate (no_instance output verdict cause y done names is) x not =
@@ -68,7 +68,7 @@ no_uids : {A : Type 0} (cause : NoInstance) (u : Uids) → Ok u ≡ Err cause �
 no_uids cause u e = absurd (cc)
 
 -- where it names no instance
-nameless_fate : (task : Task) (held out : List ℕ) (v : Verdict) (fate : Fate) (cause : NoInstance) → EndsUnnamed task held fate → ComesTo task held out v → is_written (verdict_fate v) ≡ true → FileNames out (Err cause) → no_instance_fate cause ≡ fate
+pub nameless_fate : (task : Task) (held out : List ℕ) (v : Verdict) (fate : Fate) (cause : NoInstance) → EndsUnnamed task held fate → ComesTo task held out v → is_written (verdict_fate v) ≡ true → FileNames out (Err cause) → no_instance_fate cause ≡ fate
 nameless_fate task held out v fate cause (no_days stop none is) x written names = has_days task held x.job stop x.is_job none
 nameless_fate task held out v fate cause (not_done output verdict y not is) x written names =
     true_false (is_written (verdict_fate v)) written (same_written v verdict false (comes_once task held out output v verdict x y).1 not)
@@ -76,7 +76,7 @@ nameless_fate task held out v fate cause (no_instance output verdict other y don
     ap no_instance_fate (same_cause (Err cause) cause other refl (one_instance output (Err cause) (Err other) (subst (λ (b : List ℕ). FileNames b (Err cause)) (comes_once task held out output v verdict x y).0 names) others)) ∙ sym is
 
 -- and it names none
-no_name : {A : Type 0} (task : Task) (held out : List ℕ) (v : Verdict) (fate : Fate) (u : Uids) → EndsUnnamed task held fate → ComesTo task held out v → is_written (verdict_fate v) ≡ true → FileNames out (Ok u) → A
+pub no_name : {A : Type 0} (task : Task) (held out : List ℕ) (v : Verdict) (fate : Fate) (u : Uids) → EndsUnnamed task held fate → ComesTo task held out v → is_written (verdict_fate v) ≡ true → FileNames out (Ok u) → A
 no_name task held out v fate u (no_days stop none is) x written names = has_days task held x.job stop x.is_job none
 no_name task held out v fate u (not_done output verdict y not is) x written names =
     true_false (is_written (verdict_fate v)) written (same_written v verdict false (comes_once task held out output v verdict x y).1 not)

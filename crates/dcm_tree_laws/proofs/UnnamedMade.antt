@@ -87,7 +87,7 @@ tells_unwritten e name cause from became result to done (parts.told c t is) r ok
 pub ends_unwritten : {E : Type 0} (e : Writer E) (name : List ℕ) (cause : NoPart) (from : E) (result : Result Done PartThere) (to : E) (done : Done) → EndsWithoutPart e name cause from result to → result ≡ Ok done → done ≡ without_name fates.Unwritten
 ends_unwritten e name cause from result to done (instance.ended became tells is) ok = tells_unwritten e name cause from became result to done tells is ok
 
-no_job_ends : (task : Task) (held : List ℕ) (cause : NoDays) → JobIs task held (Err cause) → EndsUnnamed task held (no_days_fate cause)
+pub no_job_ends : (task : Task) (held : List ℕ) (cause : NoDays) → JobIs task held (Err cause) → EndsUnnamed task held (no_days_fate cause)
 no_job_ends task held (days.Refused stop) found = no_days stop found refl
 no_job_ends task held (days.Unread count) found = absurd found
 no_job_ends task held days.Unopened found = absurd found

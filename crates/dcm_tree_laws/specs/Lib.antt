@@ -18,3 +18,5 @@ pub mod Copied
 pub mod Flows
 pub mod Taken
 pub mod Told
+pub mod ToldAs
+pub mod Behind

@@ -1,5 +1,5 @@
 -- The rows of runs of all shares are those of one run.
-use Rattle.std.specs.Prelude.{◌≡◌, ◌≢◌, ℕ, List, [], ◌∷◌, true, false}
+use Rattle.std.specs.Prelude.{◌≡◌, ◌≢◌, ℕ, List, [], ◌∷◌, Bool, true, false}
 use Rattle.std.specs.List.{concat}
 use Rattle.std.specs.Io.KnownBytes.{append_known}
 use Rattle.dcm_devices.specs.Writing.{Writer}
@@ -42,10 +42,13 @@ pub data AreAside {I O : Type 0} (h : Host I O) (output : List ℕ) (one other :
   both_aside : IsAside h output one.named.relative other.named.relative
       → IsAside h output other.named.relative one.named.relative → AreAside h output one other
 
--- so it is of each two of these
+-- something is so of each two of these
+abbrev pub EachTwo : (AreSo : Visit → Visit → Type 0) → List Visit → Type 0
+EachTwo AreSo [] = Unit {0}
+EachTwo AreSo (v ∷ visits) = OfAll (AreSo v) visits × EachTwo AreSo visits
+
 abbrev pub EachAside : {I O : Type 0} → Host I O → (output : List ℕ) → List Visit → Type 0
-EachAside h output [] = Unit {0}
-EachAside h output (v ∷ visits) = OfAll (AreAside h output v) visits × EachAside h output visits
+EachAside h output visits = EachTwo (AreAside h output) visits
 
 -- ---- runs
 
@@ -56,16 +59,16 @@ AreOnce (number ∷ numbers) = (¬ (Has number numbers)) × AreOnce numbers
 
 -- something is so of each of the runs
 abbrev pub EachRun : {I O W E : Type 0} (F : Type 0) (h : Host I O) (reader : Reader I) (output : Writer O)
-    (m : Writer W) (errors : Writer E) (task : Task) (folder : List ℕ) (AreSo : List Visit → Type 0) (count : ℕ)
-    (first : Tree)
+    (m : Writer W) (errors : Writer E) (keeps : Bool) (task : Task) (folder : List ℕ) (AreSo : List Visit → Type 0)
+    (count : ℕ) (first : Tree)
     → ((number : ℕ) (start left : Tree)
-    → OneRun F h reader output m errors true task folder AreSo number count start left → Type 0)
+    → OneRun F h reader output m errors keeps task folder AreSo number count start left → Type 0)
     → (numbers : List ℕ) (after : Tree)
-    → Runs F h reader output m errors true task folder AreSo count first numbers after → Type 0
-EachRun F h reader output m errors task folder AreSo count first Is numbers after (no_run none is) = Unit {0}
-EachRun F h reader output m errors task folder AreSo count first Is numbers after
+    → Runs F h reader output m errors keeps task folder AreSo count first numbers after → Type 0
+EachRun F h reader output m errors keeps task folder AreSo count first Is numbers after (no_run none is) = Unit {0}
+EachRun F h reader output m errors keeps task folder AreSo count first Is numbers after
     (and_run earlier number mid runs one more) =
-    EachRun F h reader output m errors task folder AreSo count first Is earlier mid runs × Is number mid after one
+    EachRun F h reader output m errors keeps task folder AreSo count first Is earlier mid runs × Is number mid after one
 
 -- in runs that go on, no two of one share, which visit the same names with outputs apart, each row is told by what was
 -- there before the first of them. One run of all names is such runs too: so the rows of runs of all shares are its own,
@@ -76,8 +79,8 @@ RowsAreTold {I} {O} {W} {E} F reader output m errors =
     (count : ℕ) (numbers : List ℕ) (after : Tree) → TellsAll h output → EachAside h folder visits
     → OfAll (λ v. IsTold h task folder first v (became v)) visits → AreOnce numbers
     → (runs : Runs F h reader output m errors true task folder (λ names. names ≡ visits) count first numbers after)
-    → EachRun F h reader output m errors task folder (λ names. names ≡ visits) count first
+    → EachRun F h reader output m errors true task folder (λ names. names ≡ visits) count first
     (λ number start left one. one.run.options.continues ≡ true) numbers after runs
-    → EachRun F h reader output m errors task folder (λ names. names ≡ visits) count first
+    → EachRun F h reader output m errors true task folder (λ names. names ≡ visits) count first
     (λ number start left one. m.contents one.left ≡ append_known (m.contents one.headed)
     (concat (rows_in became number count visits))) numbers after runs

@@ -2,6 +2,7 @@
 ghost use Rattle.dcm_trees.specs.World.{world};
 ghost use Rattle.dcm_tree_laws.specs.Again.{AgainIsStill, AgainIsStillOfList, ThereIsLeft};
 ghost use Rattle.dcm_tree_laws.specs.Again.{MadeIsThere, MadeIsThereOfList};
+ghost use Rattle.dcm_tree_laws.specs.Behind.{RowsAreToldBehind, RowsAreToldBehindAs};
 ghost use Rattle.dcm_tree_laws.specs.Copied.{CopiesAreThere, CopiesAreThereOfList};
 ghost use Rattle.dcm_tree_laws.specs.Copied.{SecondIsAsItWas, SecondIsAsItWasOfList};
 ghost use Rattle.dcm_tree_laws.specs.Copies.{CopyIsLeft, UnnamedIsLeft, AgainIsAsItWas, AgainIsAsItWasOfList};
@@ -16,6 +17,7 @@ ghost use Rattle.dcm_tree_laws.specs.Shares.{ManifestOfShare, OneOutput, OneShar
 ghost use Rattle.dcm_tree_laws.specs.Single.{SingleRuns, SingleRunsOfList};
 ghost use Rattle.dcm_tree_laws.specs.Taken.{NothingTakenFlows};
 ghost use Rattle.dcm_tree_laws.specs.Told.{RowsAreTold};
+ghost use Rattle.dcm_tree_laws.specs.ToldAs.{RowsAreToldAs};
 ghost use Rattle.dcm_tree_laws.specs.Together.{FateIsTold, InstancesAreOne, NothingElse, NothingElseAs, PartsAreOne};
 ghost use Rattle.dcm_tree_laws.specs.Twice.{SecondIsStill};
 
@@ -142,7 +144,8 @@ pub fn names_are_shared()
 /// the same bytes. At each other place is what was there, or a folder. So it is where no call fails that need not, and
 /// no run ends before its last name. Names that come to one output have one mode and the same bytes, and no output is
 /// on the way to another one. What becomes of a name that its output keeps is told by what was there before the first
-/// run, and so is its row.
+/// run, and so is its row. Where instances name the outputs, each row is told so too, with the instance in it. Of names
+/// that come to one output the first that is done is written, and each one behind it has `there`.
 pub fn parts_are_one<I: DeviceIn, O: DeviceOut, W: DeviceOut, E: DeviceOut, F>()
     ensures files { PartsAreOne F I.DeviceIn O.DeviceOut W.DeviceOut E.DeviceOut }
     ensures instances { InstancesAreOne F I.DeviceIn O.DeviceOut W.DeviceOut E.DeviceOut }
@@ -150,4 +153,7 @@ pub fn parts_are_one<I: DeviceIn, O: DeviceOut, W: DeviceOut, E: DeviceOut, F>()
     ensures nothing_else_as { NothingElseAs F I.DeviceIn O.DeviceOut W.DeviceOut E.DeviceOut }
     ensures fate { FateIsTold F I.DeviceIn O.DeviceOut E.DeviceOut }
     ensures rows { RowsAreTold F I.DeviceIn O.DeviceOut W.DeviceOut E.DeviceOut }
+    ensures rows_as { RowsAreToldAs F I.DeviceIn O.DeviceOut W.DeviceOut E.DeviceOut }
+    ensures rows_behind { RowsAreToldBehind F I.DeviceIn O.DeviceOut W.DeviceOut E.DeviceOut }
+    ensures rows_behind_as { RowsAreToldBehindAs F I.DeviceIn O.DeviceOut W.DeviceOut E.DeviceOut }
 {}
