@@ -70,3 +70,9 @@ pub mod Becomes
 pub mod FlowsBy
 pub mod TakenBy
 pub mod RowsToldBy
+pub mod KeptLeft
+pub mod KeptMade
+pub mod KeptFound
+pub mod KeptBy
+pub mod KeptTwice
+pub mod KeptFree

@@ -18,3 +18,4 @@ pub mod Copied
 pub mod Flows
 pub mod Taken
 pub mod Told
+pub mod Kept
