@@ -37,7 +37,7 @@ all_stand h task own output start now shared visits text (and_row earlier rest v
     (λ of_share. (done, so (last_of_all (FileWasThere h start) earlier v each) settled.0)))
 
 -- for another run of the same share
-of_share : (a b : Shared) (v : Visit) (its : Bool) → b.part ≡ a.part → is_of b.part.number b.part.count v.named.relative ≡ its → is_of a.part.number a.part.count v.named.relative ≡ its
+pub of_share : (a b : Shared) (v : Visit) (its : Bool) → b.part ≡ a.part → is_of b.part.number b.part.count v.named.relative ≡ its → is_of a.part.number a.part.count v.named.relative ≡ its
 of_share a b v its same is = subst (λ (p : _). is_of p.number p.count v.named.relative ≡ its) same is
 
 by_share : {I O : Type 0} (h : Host I O) (task : Task) (output : List ℕ) (now : Tree) (a b : Shared) → b.part ≡ a.part → (visits : List Visit) → OfAll (StandsThere h task output now a) visits → OfAll (StandsThere h task output now b) visits
@@ -59,7 +59,7 @@ nil_last (a ∷ xs) x e = nil_cons a (xs ++ x ∷ []) e
 both_cons : {A : Type 0} (a b : A) (s t : List A) → a ≡ b → s ≡ t → a ∷ s ≡ b ∷ t
 both_cons a b s t e f = cc
 
-last_same : {A : Type 0} (xs ys : List A) (x y : A) → xs ++ x ∷ [] ≡ ys ++ y ∷ [] → (xs ≡ ys) × (x ≡ y)
+pub last_same : {A : Type 0} (xs ys : List A) (x y : A) → xs ++ x ∷ [] ≡ ys ++ y ∷ [] → (xs ≡ ys) × (x ≡ y)
 last_same [] [] x y e = (refl, (cons_same x y [] [] e).0)
 last_same [] (b ∷ ys) x y e = absurd (nil_last ys y (cons_same x b [] (ys ++ y ∷ []) e).1)
 last_same (a ∷ xs) [] x y e = absurd (nil_last xs x (sym (cons_same a y (xs ++ x ∷ []) [] e).1))
@@ -68,13 +68,13 @@ last_same (a ∷ xs) (b ∷ ys) x y e =
     let more = last_same xs ys x y one.1 in
     (both_cons a b xs ys one.0 more.0, more.1)
 
-no_last : {A : Type 0} (visits earlier : List Visit) (v : Visit) → visits ≡ [] → visits ≡ earlier ++ v ∷ [] → A
+pub no_last : {A : Type 0} (visits earlier : List Visit) (v : Visit) → visits ≡ [] → visits ≡ earlier ++ v ∷ [] → A
 no_last visits earlier v none more = absurd (nil_last earlier v (sym none ∙ more))
 
-row_as : (v : Visit) (done other : Done) → SameRow v.named done other → row v.named.name (output_of v.named done) (word done.fate) ≡ row v.named.name (output_of v.named other) (word other.fate)
+pub row_as : (v : Visit) (done other : Done) → SameRow v.named done other → row v.named.name (output_of v.named done) (word done.fate) ≡ row v.named.name (output_of v.named other) (word other.fate)
 row_as v done other same = ap (λ (cell : Option (List ℕ)). row v.named.name cell (word done.fate)) same.output_is ∙ ap (row v.named.name (output_of v.named other)) same.word_is
 
-both_rows : (a b c d : List ℕ) → a ≡ b → c ≡ d → a ++ c ≡ b ++ d
+pub both_rows : (a b c d : List ℕ) → a ≡ b → c ≡ d → a ++ c ≡ b ++ d
 both_rows a b c d e f = cc
 
 module _ {I O : Type 0} (h : Host I O) (task : Task) (own output : List ℕ) (start now : Tree) (a b : Shared) (same : b.part ≡ a.part) where

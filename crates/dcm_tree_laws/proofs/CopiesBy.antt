@@ -75,10 +75,10 @@ over_visit {I} {O} {F} h r w e m shared from told_before before n what result to
 
 -- ---- a copy stays
 
-as_always : (t : Tree) → IsAsItWas t t
+pub as_always : (t : Tree) → IsAsItWas t t
 as_always t = record { names = λ place. refl; bytes = λ place f is. refl }
 
-then_as : (t u v : Tree) → IsAsItWas t u → IsAsItWas u v → IsAsItWas t v
+pub then_as : (t u v : Tree) → IsAsItWas t u → IsAsItWas u v → IsAsItWas t v
 then_as t u v first second = record {
   names = λ place. second.names place ∙ first.names place;
   bytes = λ place f is. second.bytes place f (first.names place ∙ is) ∙ first.bytes place f is;
@@ -171,14 +171,14 @@ nameless_row n done first fate is was not =
     record { output_is = ap (output_of n) same; word_is = ap (λ (d : Done). word d.fate) same }
 
 -- what becomes of a name of which something stands
-record StandsAgain (n : Named) (first : Done) (before : FileSystem) (result : Result Done PartThere) (after : FileSystem) : Type 0 where
-  same : IsAsItWas before.now after.now
-  row : (done : Done) → result ≡ Ok done → SameRow n done (again first)
+pub record StandsAgain (n : Named) (first : Done) (before : FileSystem) (result : Result Done PartThere) (after : FileSystem) : Type 0 where
+  pub same : IsAsItWas before.now after.now
+  pub row : (done : Done) → result ≡ Ok done → SameRow n done (again first)
 
-same_now : (before after : FileSystem) → after ≡ before → IsAsItWas before.now after.now
+pub same_now : (before after : FileSystem) → after ≡ before → IsAsItWas before.now after.now
 same_now before after is = subst (λ (s : FileSystem). IsAsItWas before.now s.now) (sym is) (as_always before.now)
 
-nameless_again : (n : Named) (first : Done) (fate : Fate) (before : FileSystem) (result : Result Done PartThere) (after : FileSystem) → IsAsItWas before.now after.now → result ≡ Ok (without_name fate) → first ≡ without_name fate → is_written fate ≡ false → StandsAgain n first before result after
+pub nameless_again : (n : Named) (first : Done) (fate : Fate) (before : FileSystem) (result : Result Done PartThere) (after : FileSystem) → IsAsItWas before.now after.now → result ≡ Ok (without_name fate) → first ≡ without_name fate → is_written fate ≡ false → StandsAgain n first before result after
 nameless_again n first fate before result after same is was not = record { same = same; row = λ done ok. nameless_row n done first fate (same_ok result (without_name fate) done is ok) was not }
 
 true_false : {A : Type 0} (b : Bool) → b ≡ true → b ≡ false → A
@@ -216,7 +216,7 @@ no_file_first h task output t n what first other (unnamed mode is index f ends n
 no_file_first h task output t n what first other (an_index mode is index d) = absurd (other mode is)
 no_file_first h task output t n what first other (no_file others d) = d
 
-no_file_again : (n : Named) (what : What) (first : Done) (before : FileSystem) (result : Result Done PartThere) (after : FileSystem) → ((mode : ℕ) → what ≢ File mode) → after ≡ before → result ≡ Ok (without_name (fate_of what)) → first ≡ without_name (fate_of what) → StandsAgain n first before result after
+pub no_file_again : (n : Named) (what : What) (first : Done) (before : FileSystem) (result : Result Done PartThere) (after : FileSystem) → ((mode : ℕ) → what ≢ File mode) → after ≡ before → result ≡ Ok (without_name (fate_of what)) → first ≡ without_name (fate_of what) → StandsAgain n first before result after
 no_file_again n what first before result after other same ok was = nameless_again n first (fate_of what) before result after (same_now before after same) ok was (what_not what)
 
 name_again : {I O F E : Type 0} (h : Host I O) (r : Reader I) (w : Writer O) (e : Writer E) (k : Manner) (n : Named) (what : What) (first : Done) (start : Tree) (from : E) (before : FileSystem) (result : Result Done PartThere) (to : E) (after : FileSystem) → Known h w k start before.now → at_path h before.now k.part ≡ None

@@ -115,9 +115,9 @@ module _ {I O : Type 0} (F : Type 0) (h : Host I O) (path : List ℕ) (base : �
       last_or s mid after from size p seen (looking.folders (sure (folders_do {F = F} h)) (sure_quiet h) path base s from mid more) first l goes (omega (arith, less, a)) slash (λ before. seen_way s from mid more p least before slash) (cases_lt p from)
 
   -- a file is at its end
-  record FileThere (s : FileSystem) : Type 0 where
-    file : IsAt h kinds.File s.now path
-    way : (folder behind : List ℕ) → path ≡ below folder behind → base ≤ length folder → IsAt h kinds.Folder s.now folder
+  pub record FileThere (s : FileSystem) : Type 0 where
+    pub file : IsAt h kinds.File s.now path
+    pub way : (folder behind : List ℕ) → path ≡ below folder behind → base ≤ length folder → IsAt h kinds.Folder s.now folder
 
   along_way : (s : FileSystem) (way : _) (mid : FileSystem) → (end_of_found None ≡ Some way → ⊥) → (end_at kinds.File ≡ Some way → ⊥) → LooksAlong (sure (folders_do {F = F} h)) path base s way mid → (folder behind : List ℕ) → path ≡ below folder behind → base ≤ length folder → IsAt h kinds.Folder s.now folder
   along_way s way mid gap block (places.to_its_end at f none is) folder behind cut least =
@@ -126,7 +126,7 @@ module _ {I O : Type 0} (F : Type 0) (h : Host I O) (path : List ℕ) (base : �
       (up_to_last path at (length folder) (cases_lt (length folder) at) x.0 x.1 none (λ less. seen_way s at mid f (length folder) least less x.1))
   along_way s way mid gap block (places.ended at size seen end between f slash l ends is) folder behind cut least = absurd (never_ends seen way gap block (ends ∙ ap Some (sym is)))
 
-  place_there : (s : FileSystem) (place : Place) (after : FileSystem) → place ≡ spots.There → Finds (sure (folders_do {F = F} h)) path base s place after → FileThere s
+  pub place_there : (s : FileSystem) (place : Place) (after : FileSystem) → place ≡ spots.There → Finds (sure (folders_do {F = F} h)) path base s place after → FileThere s
   place_there s place after there (places.missing l is) = absurd (no_place spots.Free (sym is ∙ there) refl)
     where
       no_place : (p : Place) → p ≡ spots.There → p ≡ spots.Free → ⊥
@@ -167,7 +167,7 @@ module _ {I O : Type 0} (F : Type 0) (h : Host I O) (r : Reader I) (w : Writer O
   met_moving s naming named there (parts.free place looked f nf (parts.moved call is)) = absurd (not_moved naming spots.There there is)
   met_moving s naming named there (parts.free place looked f nf (parts.not_moved e call is)) = absurd (not_failed naming spots.There there is)
 
-  met_second : (s : FileSystem) (naming : Naming) (named : FileSystem) → naming ≡ NotFree spots.There → GivesSecondName (working_may h r w (may_do h)) (working_folders h (sure (folders_do {F = F} h))) part path base s naming named → FileThere F h path base named
+  pub met_second : (s : FileSystem) (naming : Naming) (named : FileSystem) → naming ≡ NotFree spots.There → GivesSecondName (working_may h r w (may_do h)) (working_folders h (sure (folders_do {F = F} h))) part path base s naming named → FileThere F h path base named
   met_second s naming named there (parts.no_part_text t is same) = absurd (not_failed naming spots.There there is)
   met_second s naming named there (parts.no_text t u is same) = absurd (not_failed naming spots.There there is)
   met_second s naming named there (parts.linked t u call is) = absurd (not_free naming spots.There there is)

@@ -186,14 +186,14 @@ pub record Fated (task : Task) (bytes : List ℕ) (fate : Fate) : Type 0 where
   pub ends : EndsAs task bytes end
   pub is : fate ≡ end_fate end
 
-by_verdict : (task : Task) (bytes out : List ℕ) (job : Job) (fate : Fate) (ending : Ending) → IsJobOf task bytes job → fate ≡ ending_fate ending → HasDone job bytes out ending → Fated task bytes fate
+pub by_verdict : (task : Task) (bytes out : List ℕ) (job : Job) (fate : Fate) (ending : Ending) → IsJobOf task bytes job → fate ≡ ending_fate ending → HasDone job bytes out ending → Fated task bytes fate
 by_verdict task bytes out job fate ending is_job is has = record {
   end = was_done out has.verdict;
   ends = by_job out has.verdict (record { job = job; is_job = is_job; answered = has.answered }) refl;
   is = is ∙ ap ending_fate has.is;
 }
 
-no_job_by : (task : Task) (bytes : List ℕ) (fate : Fate) (cause : NoDays) → fate ≡ no_days_fate cause → JobIs task bytes (Err cause) → Fated task bytes fate
+pub no_job_by : (task : Task) (bytes : List ℕ) (fate : Fate) (cause : NoDays) → fate ≡ no_days_fate cause → JobIs task bytes (Err cause) → Fated task bytes fate
 no_job_by task bytes fate (no_days.Refused stop) is none = record { end = no_job stop; ends = by_days_of stop none refl; is = is }
 no_job_by task bytes fate (no_days.Unread count) is none = absurd none
 no_job_by task bytes fate no_days.Unopened is none = absurd none

@@ -76,3 +76,9 @@ pub mod ToldAsBy
 pub mod Following
 pub mod BehindAs
 pub mod BehindBy
+pub mod KeptLeft
+pub mod KeptMade
+pub mod KeptFound
+pub mod KeptBy
+pub mod KeptTwice
+pub mod KeptFree

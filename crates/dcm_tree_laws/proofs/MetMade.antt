@@ -63,7 +63,7 @@ done_not : (unplaced : ℕ) → verdict_fate (verdicts.Done unplaced) ≡ fates.
 done_not zero e = absurd (cc)
 done_not (suc n) e = absurd (cc)
 
-verdict_not : (verdict : Verdict) → verdict_fate verdict ≡ fates.There → ⊥
+pub verdict_not : (verdict : Verdict) → verdict_fate verdict ≡ fates.There → ⊥
 verdict_not (verdicts.Done unplaced) e = done_not unplaced e
 verdict_not verdicts.PixelsMayShow e = absurd (cc)
 verdict_not (verdicts.Refused stop) e = absurd (cc)

@@ -47,7 +47,7 @@ module _ {I O F W E : Type 0} (h : Host I O) (r : Reader I) (w : Writer O) (m : 
       (step {F = F} h r w e k number part_is (whole_gives h r w tells) keeps first x mode bytes (subst (λ (o : List ℕ). IsNameOf h o first x mode bytes) (sym output_is) named) n what from before done to after none
       (subst (λ (o : List ℕ). GoesBeside h o before.now x bytes (visit_of n what)) (sym output_is) beside) does))
 
-  leaving : Leaving F h r w e true task folder first x (Stage h task folder x.named.relative mode bytes) (Settled h task folder x.named.relative mode bytes) (λ t v. GoesBeside h folder t x bytes v)
+  pub leaving : Leaving F h r w e true task folder first x (Stage h task folder x.named.relative mode bytes) (Settled h task folder x.named.relative mode bytes) (λ t v. GoesBeside h folder t x bytes v)
   leaving = record {
     kept = λ t u keeps v beside. beside_kept h folder t u x bytes keeps v beside;
     step = λ k number part_is keeps output_is task_is n what from before done to after none since beside does. step_of k number part_is keeps output_is task_is n what from before done to after none since beside does;

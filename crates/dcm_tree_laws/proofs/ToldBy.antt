@@ -27,11 +27,11 @@ file_own w m n mode from before result to after done keeps (files.an_index index
 file_own w m n mode from before result to after done keeps (files.keeps_name became index kept does is) ok = its_own became result done is ok
 file_own w m n mode from before result to after done keeps (files.by_instance index not does) ok = true_false m.keeps_names keeps not
 
-name_own : {S I O F E : Type 0} (w : World S I O F E) (m : Manner) (n : Named) (mode : ℕ) (from : E) (before : S) (done : Done) (to : E) (after : S) → m.keeps_names ≡ true → DoesName w m n (File mode) from before (Ok done) to after → done.instance ≡ None
+pub name_own : {S I O F E : Type 0} (w : World S I O F E) (m : Manner) (n : Named) (mode : ℕ) (from : E) (before : S) (done : Done) (to : E) (after : S) → m.keeps_names ≡ true → DoesName w m n (File mode) from before (Ok done) to after → done.instance ≡ None
 name_own w m n mode from before done to after keeps (files.a_file other is does) = file_own w m n other from before (Ok done) to after done keeps does refl
 name_own w m n mode from before done to after keeps (files.no_file other told is same) = absurd (other mode refl)
 
-by_both : (done : Done) (fate : Fate) → done.fate ≡ fate → done.instance ≡ None → done ≡ record { fate = fate; instance = None }
+pub by_both : (done : Done) (fate : Fate) → done.fate ≡ fate → done.instance ≡ None → done ≡ record { fate = fate; instance = None }
 by_both done fate is none = ap (λ (f : Fate). record done { fate = f }) is ∙ ap (λ (i : _). record done { fate = fate; instance = i }) none
 
 pub fate_is_told : {I O F E : Type 0} (r : Reader I) (w : Writer O) (e : Writer E) → FateIsTold F r w e

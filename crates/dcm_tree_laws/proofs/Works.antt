@@ -133,7 +133,7 @@ module _ {S I O F : Type 0} (may more : MayDo S I O) (also : Allows may more) (d
   gives_second part path base before naming after (parts.linked t u call is) = parts.linked t u (can.link before part path _ after call) is
   gives_second part path base before naming after (parts.not_linked x tried t u call m) = parts.not_linked x tried t u (can.link before part path _ tried call) (moves_if_free part path base tried naming after m)
 
-  gives_name : (part path : List ℕ) (base : ℕ) (before : S) (naming : Naming) (after : S) → GivesName may d part path base before naming after → GivesName more e part path base before naming after
+  pub gives_name : (part path : List ℕ) (base : ℕ) (before : S) (naming : Naming) (after : S) → GivesName may d part path base before naming after → GivesName more e part path base before naming after
   gives_name part path base before naming after (parts.no_way x m n) = parts.no_way x (makes_way d e can path base before (Err x) after m) n
   gives_name part path base before naming after (parts.on_its_way has_way m g) = parts.on_its_way has_way (makes_way d e can path base before (Ok _) has_way m) (gives_second part path base has_way naming after g)
 

@@ -20,3 +20,4 @@ pub mod Taken
 pub mod Told
 pub mod ToldAs
 pub mod Behind
+pub mod Kept

@@ -9,6 +9,8 @@ ghost use Rattle.dcm_tree_laws.specs.Copies.{CopyIsLeft, UnnamedIsLeft, AgainIsA
 ghost use Rattle.dcm_tree_laws.specs.Determined.{OneEnd, EndIsAnswer, OneInstance};
 ghost use Rattle.dcm_tree_laws.specs.Distinct.{OutputsAreDistinct, OutputsAreDistinctOfList};
 ghost use Rattle.dcm_tree_laws.specs.Flows.{NoNameFlows, SameBecomes};
+ghost use Rattle.dcm_tree_laws.specs.Kept.{AgainIsKept, AgainIsKeptOfList, KeptIsThere, KeptIsThereOfList};
+ghost use Rattle.dcm_tree_laws.specs.Kept.{SecondIsKept, SecondIsKeptOfList, StaysFree, WithoutIsLeft};
 ghost use Rattle.dcm_tree_laws.specs.Laws.{NeverHalf, NeverHalfByWords, OthersStay, OthersStayByWords};
 ghost use Rattle.dcm_tree_laws.specs.OneRow.{OneRow, OneRowOfList};
 ghost use Rattle.dcm_tree_laws.specs.Outputs.{WrittenIsThere, WrittenIsThereOfList};
@@ -114,6 +116,22 @@ pub fn again_is_as_it_was<I: DeviceIn, O: DeviceOut, W: DeviceOut, E: DeviceOut,
     ensures no_name { UnnamedIsLeft F I.DeviceIn O.DeviceOut E.DeviceOut }
     ensures folder { AgainIsAsItWas F I.DeviceIn O.DeviceOut W.DeviceOut E.DeviceOut }
     ensures list { AgainIsAsItWasOfList F I.DeviceIn O.DeviceOut W.DeviceOut E.DeviceOut }
+{}
+
+/// A second run that goes on and keeps names leaves all as it was, and has the rows of the first, but `there` for
+/// `written` and `unplaced`. It is of the same task and share, into the same folder, and visits the same names. So it
+/// is after a first run each of whose files was there at its start, and was written, or was there, or was refused. The
+/// output of what was refused is still free, as it stays where no other name comes to be there, or on its way. Then
+/// that is refused again. It is said where no call fails that need not.
+pub fn again_keeps_names<I: DeviceIn, O: DeviceOut, W: DeviceOut, E: DeviceOut, F>()
+    ensures made { KeptIsThere F I.DeviceIn O.DeviceOut W.DeviceOut E.DeviceOut }
+    ensures made_by_list { KeptIsThereOfList F I.DeviceIn O.DeviceOut W.DeviceOut E.DeviceOut }
+    ensures twice { SecondIsKept F I.DeviceIn O.DeviceOut W.DeviceOut E.DeviceOut }
+    ensures twice_by_list { SecondIsKeptOfList F I.DeviceIn O.DeviceOut W.DeviceOut E.DeviceOut }
+    ensures free { StaysFree F I.DeviceIn O.DeviceOut W.DeviceOut E.DeviceOut }
+    ensures name { WithoutIsLeft F I.DeviceIn O.DeviceOut E.DeviceOut }
+    ensures folder { AgainIsKept F I.DeviceIn O.DeviceOut W.DeviceOut E.DeviceOut }
+    ensures list { AgainIsKeptOfList F I.DeviceIn O.DeviceOut W.DeviceOut E.DeviceOut }
 {}
 
 /// Outputs that instances name tell neither the names of files nor what is taken out of these. Two trees are done in
