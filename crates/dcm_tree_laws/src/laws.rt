@@ -118,7 +118,7 @@ pub fn again_is_as_it_was<I: DeviceIn, O: DeviceOut, W: DeviceOut, E: DeviceOut,
     ensures list { AgainIsAsItWasOfList F I.DeviceIn O.DeviceOut W.DeviceOut E.DeviceOut }
 {}
 
-/// A second run that goes on and keeps names leaves all as it was, and has the rows of the first, but `there` for
+/// A second run that goes on and keeps names leaves all as it was. Its rows are those of the first, but `there` for
 /// `written` and `unplaced`. It is of the same task and share, into the same folder, and visits the same names. So it
 /// is after a first run each of whose files was there at its start, and was written, or was there, or was refused. The
 /// output of what was refused is still free, as it stays where no other name comes to be there, or on its way. Then
