@@ -13,5 +13,4 @@ pub mod Sinks
 pub mod Skip
 pub mod Laws
 pub mod WholeLeaf
-pub mod Marks
 pub mod Telling
