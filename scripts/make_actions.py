@@ -23,7 +23,8 @@ pub type Action = (u32, Fate, &'static [Retain]);
 pub const ACTIONS: [Action; {count}] = [
 """
 MARKS_HEADER = """
-/// The marks, 64 to a word, the lowest bit first: that of each row is set, and those of nearly all other numbers are not.
+/// The marks, 64 to a word, the lowest bit first: that of each row is set, and those of nearly all other numbers are
+/// not.
 #[rattlefmt::skip]
 pub const MARKS: [u64; {words}] = [
 """

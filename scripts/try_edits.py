@@ -9,9 +9,11 @@
     scripts/try_edits.py --table       writes the table of the record into docs/engineers/GATE.md
 
 The gate's edits of a crate are in `crates/NAME/must-fail`, all others in `scripts/edits/NAME`, in the same form. It works on a copy of
-the repository, and needs `rt`. The record is scripts/edits/tried.tsv: crate, checksum of its sources, definitions and edits, day, edits.
+the repository, and needs `rt`. The record is scripts/edits/tried.tsv: crate, checksum of its sources, definitions and edits (but not of
+comments, nor of how lines are broken), day, edits.
 
-A refusal counts only where a goal is left open: of the function that the edit changes, or of one that calls it or names what it changes.
+A refusal counts only where a goal is left open: of the function that the edit changes, or of one that calls it or names what it changes,
+be it by the struct that holds it.
 One that comes of a missing name, a type, the shape of a proof or a form that does not compile fails, and so does any line that is not
 understood. It ends with 0 where each edit is refused for a goal, and of --check where no crate changed.
 
@@ -51,6 +53,7 @@ MOST = 20
 
 # The head of a function, of a constant, or of another name of a type.
 HEAD = re.compile(r"(?P<indent>\s*)(?:pub(?:\([^)]*\))? )?(?P<kind>(?:const )?fn|const|static|type) (?P<name>\w+)")
+GHOST_NAMES = re.compile(r"ghost use (?P<module>[\w.]+)\.\{(?P<names>[^}]*)\};$")
 CYCLE = re.compile(r"#\[cycle\((\w+)\)\]\s*(?:(?://|#\[)[^\n]*\s*)*(?:pub(?:\([^)]*\))? )?fn (\w+)")
 
 # In an answer these speak of names and forms, and not of what is to be shown.
@@ -72,14 +75,29 @@ def crates_with_edits() -> list[str]:
 
 
 def checksum(crate: str) -> str:
-    """Of what an edit of the crate may change or meet."""
+    """Of what an edit of the crate may change or meet. Comments of the sources, and how their lines are broken, are left out."""
     sum_of = hashlib.sha256()
     folders = [ROOT / "crates" / crate / name for name in ("src", "specs", "must-fail")] + [OTHERS / crate]
     for folder in folders:
         for path in sorted(folder.rglob("*")):
             if path.is_file():
-                sum_of.update(str(path.relative_to(ROOT)).encode() + b"\0" + path.read_bytes() + b"\0")
+                text = words_of(path.read_text()).encode() if path.suffix == ".rt" else path.read_bytes()
+                sum_of.update(str(path.relative_to(ROOT)).encode() + b"\0" + text + b"\0")
     return sum_of.hexdigest()[:16]
+
+
+def words_of(text: str) -> str:
+    """A source without the lines that are comments, with one space where words are apart, and the imports of each ghost module as one."""
+    lines = [line for line in text.splitlines() if not line.lstrip().startswith("//")]
+    imports: dict[str, set[str]] = {}
+    rest = []
+    for line in lines:
+        found = GHOST_NAMES.match(line)
+        if found:
+            imports.setdefault(found["module"], set()).update(name.strip() for name in found["names"].split(","))
+        else:
+            rest.append(line)
+    return " ".join([*(f"{module} {sorted(names)}" for module, names in sorted(imports.items())), *"\n".join(rest).split()])
 
 
 # ---- the record
@@ -220,17 +238,21 @@ def goals_in(crate: str, said: str) -> list[tuple[str, str, str, str]]:
 
 
 def speaks_of(crate: str, function: str, item: str) -> bool:
-    """Whether a function of the crate, or a lemma, names an item: it calls it, or is another function of one cycle of calls."""
+    """Whether a function of the crate, or a lemma, names an item: it calls it, is another function of one cycle of calls, or names a
+    struct that has the item in its fields, as the length of an array is."""
     if not item or not function or function == item:
         return True
     if "/" in function:
         return True
-    for path in (ROOT / "crates" / crate / "src").rglob("*.rt"):
-        text = path.read_text()
-        for body in re.findall(rf"fn {re.escape(function)}\b.*?\n(?:    )?}}\n", text, re.S):
-            if re.search(rf"\b{re.escape(item)}\b", body):
-                return True
-    return False
+    texts = [path.read_text() for path in (ROOT / "crates" / crate / "src").rglob("*.rt")]
+    is_named = re.compile(rf"\b(?:{'|'.join(map(re.escape, [item, *holders(texts, item)]))})\b")
+    return any(is_named.search(body) for text in texts for body in re.findall(rf"fn {re.escape(function)}\b.*?\n(?:    )?}}\n", text, re.S))
+
+
+def holders(texts: list[str], item: str) -> list[str]:
+    """The structs that have an item in their fields."""
+    structs = (found for text in texts for found in re.findall(r"^pub(?:\([^)]*\))? struct (\w+)[^;{]*\{(.*?)^\}", text, re.S | re.M))
+    return [name for name, fields in structs if re.search(rf"\b{re.escape(item)}\b", fields)]
 
 
 def refusal(crate: str, edit: Path, said: str, is_alone: bool) -> str:

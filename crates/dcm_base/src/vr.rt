@@ -171,8 +171,8 @@ fn lettered<'a>(rows: &'a [(Vr, [u8; 2])], letters: &[u8; 2]) -> Option<&'a (Vr,
     rows.iter().find(|row| has_letters(row, letters))
 }
 
-/// Guesses of the value representation of two letters. They are wrong for AT and SV alone. It is a static: of a constant
-/// each look-up would put all 64 together on the stack.
+/// Guesses of the value representation of two letters. They are wrong for AT and SV alone. It is a static: of a
+/// constant each look-up would put all 64 together on the stack.
 static GUESSES: [Vr; 64] = [
     Vr::UN,
     Vr::UN,

@@ -29,8 +29,8 @@ pub fn mixed(sum: u64, number: u64) -> u64 {
     (sum ^ number).wrapping_mul(FACTOR).rotate_left(29)
 }
 
-/// A sum with a block of bytes. Four sums go side by side, each over every fourth word, since a step of one waits for the
-/// step before it.
+/// A sum with a block of bytes. Four sums go side by side, each over every fourth word, since a step of one waits for
+/// the step before it.
 fn with_block(sum: u64, block: &[u8; BLOCK]) -> u64 {
     let (mut first, mut second, mut third, mut fourth) = (sum, 1, 2, 3);
     for place in 0..BLOCK / (4 * WORD) {

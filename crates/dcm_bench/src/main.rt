@@ -1,7 +1,7 @@
 //! The benchmark: jobs that users wait for, over inputs that it makes itself. It is no part of the program.
 //!
-//! `dcm_bench WORKLOAD ROUNDS SEED` makes the inputs of so many rounds from the seed, does the jobs of the workload on each of
-//! them, and prints a digest of all outputs, lines on standard error and statuses.
+//! `dcm_bench WORKLOAD ROUNDS SEED` makes the inputs of so many rounds from the seed, does the jobs of the workload on
+//! each of them, and prints a digest of all outputs, lines on standard error and statuses.
 #![tactic(auto)]
 
 mod arrays;

@@ -11,7 +11,8 @@ use std::io;
 /// A workload.
 #[derive(Clone, Copy)]
 pub enum Workload {
-    /// Dumps of reports, images of many frames and slices, as one looks into them; awkward: files of empty elements and items.
+    /// Dumps of reports, images of many frames and slices, as one looks into them; awkward: files of empty elements and
+    /// items.
     Dumps,
     /// Full dumps of reports, images of many frames and slices, whose values are short.
     Lines,

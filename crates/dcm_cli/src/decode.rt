@@ -75,7 +75,8 @@ fn decode_set<R: DeviceIn, W: DeviceOut>(
     read_rest(0, input, buffer, &mut machine, &mut sink)
 }
 
-/// Writes the dump of a file, or of a data set alone, by a reader of heads and a buffer that may have served other files.
+/// Writes the dump of a file, or of a data set alone, by a reader of heads and a buffer that may have served other
+/// files.
 pub fn decode_with<R: DeviceIn, W: DeviceOut>(
     dump: Dump,
     meta: &mut Meta,

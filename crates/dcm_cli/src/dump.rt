@@ -98,7 +98,8 @@ fn dump_by_bytes<R: DeviceIn, W: DeviceOut>(
     }
 }
 
-/// Writes the dump of a file, or of a data set alone, by a reader of heads and a buffer that may have served other files.
+/// Writes the dump of a file, or of a data set alone, by a reader of heads and a buffer that may have served other
+/// files.
 #[inline(never)]
 pub fn dump_with<R: DeviceIn, W: DeviceOut>(
     dump: Dump,

@@ -137,8 +137,8 @@ fn first_end(
     }
 }
 
-/// The search of a data set for its patient: a machine that stops at PatientID, so that its place is known, and one that
-/// goes on into its value. Why the one and the other go no further, if they do.
+/// The search of a data set for its patient: a machine that stops at PatientID, so that its place is known, and one
+/// that goes on into its value. Why the one and the other go no further, if they do.
 #[derive(Drop)]
 struct Search {
     place: Machine,

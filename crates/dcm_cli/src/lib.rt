@@ -4,8 +4,8 @@
 //!   reports what is wrong, and answers how it ended. Its contract is the theorem of the whole.
 //! - `dump_with` of `dump` shows one input after another, for who shows several.
 //! - `dump`, `convert`, `modify` and `build` are the work on the four kinds of jobs, by `head`, `pass` and `rewrite`.
-//! - `tell`, `tell_open`, `tell_unopened` and `tell_no_key` report words that are refused, and files and keys that cannot
-//!   be opened; `status` has the exit statuses.
+//! - `tell`, `tell_open`, `tell_unopened` and `tell_no_key` report words that are refused, and files and keys that
+//!   cannot be opened; `status` has the exit statuses.
 //! - `take_key` of `key` reads a key, and `first_reading` of `first` a file as far as its patient.
 //! - `obey` does what words say, over any system that opens devices (`System`), but for tables, which are above it.
 //!

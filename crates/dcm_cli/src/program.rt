@@ -173,7 +173,8 @@ fn deidentify_with<S: System, E: DeviceOut>(
     work_whole(system, planned, &job, Some(key.kind), errors)
 }
 
-/// Takes identity out of a file with a key that was read, its dates moved by the days that the key makes of its patient.
+/// Takes identity out of a file with a key that was read, its dates moved by the days that the key makes of its
+/// patient.
 fn deidentify_by_days<S: System, E: DeviceOut>(
     system: &mut S,
     planned: &Planned,
@@ -182,7 +183,8 @@ fn deidentify_by_days<S: System, E: DeviceOut>(
     errors: &mut Watched<E>,
 ) -> u8
     ensures works { spec.MovesByKey S.may_do S.Input.DeviceIn S.Output.DeviceOut (plans.planned planned.now)
-        what.now.options what.now.reports key (change_of E.DeviceOut errors.old errors.new) system.old result system.new }
+        what.now.options what.now.reports key (change_of E.DeviceOut errors.old errors.new) system.old result
+        system.new }
     ensures within { result ≤ statuses.MEMORY }
 {
     match take_days(system, planned.input, key.bytes.as_slice()) {

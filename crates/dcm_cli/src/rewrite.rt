@@ -124,8 +124,8 @@ pub fn open_file<R: DeviceIn, W: DeviceOut>(
 ) -> Result<Opened, Ending>
     requires room { 0 < length buffer.old }
     requires bound { length buffer.old ≤ BUFFER_LIMIT }
-    ensures opens { calls.Opens R.DeviceIn W.DeviceOut dictionary target (opening.change_by head.now) input.old input.new
-        out.old out.new buffer.old buffer.new result }
+    ensures opens { calls.Opens R.DeviceIn W.DeviceOut dictionary target (opening.change_by head.now) input.old
+        input.new out.old out.new buffer.old buffer.new result }
     ensures start { IfOk result (λ o. o.start ≤ INPUT_LIMIT) }
     ensures within { IfOk result (λ o. spec.IsWithin o.beginning buffer.new) }
     ensures count { IfOk result (λ o. o.start + length (spec.set_bytes o.beginning buffer.new) ≡ o.beginning.read) }

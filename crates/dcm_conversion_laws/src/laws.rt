@@ -3,9 +3,9 @@ ghost use Rattle.dcm_conversion_laws.specs.Laws.{AscendingAgree, ConvertersAgree
 ghost use Rattle.dcm_conversion_laws.specs.Laws.{ExplicitKeeps, FilesCompose, FrontsCompose, ModifiersAgree};
 ghost use Rattle.dcm_conversion_laws.specs.Laws.{ReadingsAgree, SetsCompose};
 
-/// A conversion to one syntax, and of its output to another, writes what the second writes alone. So it is where no form is
-/// lost on the way: the target would write the same representation, and no pad byte becomes part of a unit that is
-/// turned. No form is lost by an explicit way of the same order of bytes, nor of values of even length.
+/// A conversion to one syntax, and of its output to another, writes what the second writes alone. So it is where no
+/// form is lost on the way: the target would write the same representation, and no pad byte becomes part of a unit that
+/// is turned. No form is lost by an explicit way of the same order of bytes, nor of values of even length.
 pub fn recode_composes()
     ensures sets { SetsCompose }
     ensures read { FrontsCompose }

@@ -7,8 +7,8 @@ ghost use Rattle.dcm_dates.specs.Numbered.{date_of, is_day, number_of};
 ghost use Rattle.dcm_dates.specs.Moved.{moved, moved_date};
 ghost use Rattle.dcm_dates.specs.Laws.{IsTextMoved, next_day, number_shown};
 
-/// Days and the numbers from 1 to 3,652,059 belong to each other one to one: 0001-01-01 has 1, and the next day the next
-/// number.
+/// Days and the numbers from 1 to 3,652,059 belong to each other one to one: 0001-01-01 has 1, and the next day the
+/// next number.
 pub fn dates_are_numbers()
     ensures first { day_number 1 1 1 ≡ 1 }
     ensures next { (date : Date) → is_day date ≡ true → number_of (next_day date) ≡ number_of date + 1 }
@@ -28,7 +28,8 @@ pub fn dates_are_moved()
 
 /// Between two dates are as many days as between those that they are moved to by the same days.
 pub fn intervals_are_kept()
-    ensures { (days : ℤ) (one other new newer : List ℕ) → moved_date days one ≡ Some new → moved_date days other ≡ Some newer
+    ensures { (days : ℤ) (one other new newer : List ℕ) → moved_date days one ≡ Some new
+        → moved_date days other ≡ Some newer
         → number_shown newer + number_shown one ≡ number_shown new + number_shown other }
 {}
 

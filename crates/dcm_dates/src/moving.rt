@@ -1,5 +1,6 @@
 // Texts whose dates are moved by days.
-ghost use Rattle.std.specs.Prelude.{◌≡◌, ◌+◌, ◌++◌, ◌<◌, ◌≤◌, [], ◌∷◌, List, ℕ, length, position, option_map, ◌==◌, not, if◌then◌else◌};
+ghost use Rattle.std.specs.Prelude.{◌≡◌, ◌+◌, ◌++◌, ◌<◌, ◌≤◌, [], ◌∷◌, List, ℕ, length, position, option_map, ◌==◌};
+ghost use Rattle.std.specs.Prelude.{not, if◌then◌else◌};
 ghost use Rattle.dcm_dates.specs.Moved as spec;
 ghost use Rattle.dcm_dates.specs.Numbered as numbered;
 
@@ -112,8 +113,8 @@ fn add_parts(
     add_part(kind, days, rest, out)
 }
 
-/// A text without padding with all its dates moved by days, or nothing where one of them cannot be moved, or the text is
-/// longer than is held.
+/// A text without padding with all its dates moved by days, or nothing where one of them cannot be moved, or the text
+/// is longer than is held.
 pub fn moved(kind: DateKind, days: i32, text: &[u8]) -> ArrayVec<u8, MOST_HELD>
     ensures { result.items ≡ spec.moved kind days text.now }
 {

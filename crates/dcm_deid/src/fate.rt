@@ -14,8 +14,8 @@ const MARKS_OF_A_WORD: usize = 64;
 /// How many words of marks there are.
 const WORDS: usize = 128;
 
-/// There are two to the power of so many marks. With 8,192 for the 562 numbers of the table one in fifteen of the others
-/// has a mark too, and they are 1 KB, which stays in the nearest cache.
+/// There are two to the power of so many marks. With 8,192 for the 562 numbers of the table one in fifteen of the
+/// others has a mark too, and they are 1 KB, which stays in the nearest cache.
 const MARK_BITS: u32 = 13;
 
 /// PatientID.

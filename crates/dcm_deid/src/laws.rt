@@ -102,7 +102,8 @@ pub fn what_stays_is_known()
 
 /// What is made of a value has its form: it is empty, an identifier, a pseudonym, or dates that there are.
 pub fn made_values_have_form()
-    ensures { (options : Options) (key : List ℕ) (made : NewValue) (b : List ℕ) → HasForm made (made_new options key made b) }
+    ensures { (options : Options) (key : List ℕ) (made : NewValue) (b : List ℕ) → HasForm made
+        (made_new options key made b) }
 {}
 
 /// Unless full dates are kept, no element of dates stays as it is, at any depth.

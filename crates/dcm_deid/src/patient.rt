@@ -185,7 +185,8 @@ impl PatientSink {
 
     /// After the end of a value.
     fn close(&mut self)
-        ensures { self.new ≡ record { depth = self.old.depth; naming = spec.naming_ended self.old.naming; held = self.old.held } }
+        ensures { self.new
+            ≡ record { depth = self.old.depth; naming = spec.naming_ended self.old.naming; held = self.old.held } }
     {
         if self.naming == Naming::Opened {
             self.naming = Naming::Ended;

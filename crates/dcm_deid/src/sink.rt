@@ -297,8 +297,8 @@ impl<'a, S: Sink> DeidentifySink<'a, S> {
         self.place.may_show
     }
 
-    /// Takes an element with its whole value by its tokens, one after another. It is not inlined: of few elements a value
-    /// is held, and the way of the others stays small.
+    /// Takes an element with its whole value by its tokens, one after another. It is not inlined: of few elements a
+    /// value is held, and the way of the others stays small.
     #[inline(never)]
     fn take_by_token(&mut self, head: Head, syntax: Syntax, value: &[u8]) -> Result<(), WriteFailed>
         ensures { sinks.Took ⟦<DeidentifySink<'a, S> as Sink>⟧ self.old self.new
@@ -321,8 +321,8 @@ impl<'a, S: Sink> DeidentifySink<'a, S> {
         Ok(())
     }
 
-    /// Takes an element with its whole value. What becomes of it is looked up once, and passed on by one call, but where
-    /// the value has to be known. It is not inlined, so that what reads heads stays small.
+    /// Takes an element with its whole value. What becomes of it is looked up once, and passed on by one call, but
+    /// where the value has to be known. It is not inlined, so that what reads heads stays small.
     #[inline(never)]
     fn pass_whole(&mut self, head: Head, syntax: Syntax, value: &[u8]) -> Result<(), WriteFailed>
         requires { IsLeaf head syntax value.now }

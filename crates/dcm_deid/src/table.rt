@@ -572,7 +572,8 @@ pub const ACTIONS: [Action; 562] = [
     (0xFFFC_FFFC, Fate::Remove, &[]),
 ];
 
-/// The marks, 64 to a word, the lowest bit first: that of each row is set, and those of nearly all other numbers are not.
+/// The marks, 64 to a word, the lowest bit first: that of each row is set, and those of nearly all other numbers are
+/// not.
 #[rattlefmt::skip]
 pub const MARKS: [u64; 128] = [
     0x0020_0000_0840_0800, 0x0040_0040_0000_0000, 0x0009_0A00_0020_0000, 0x0000_0008_0004_0010,

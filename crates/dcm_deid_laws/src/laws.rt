@@ -2,10 +2,10 @@
 ghost use Rattle.dcm_deid_laws.specs.Laws.{DeidentifiedReads, DeidentifiedTwice, ReadsForDcmdeid, TakenIsGone};
 ghost use Rattle.dcm_deid_laws.specs.Laws.{ThereAndBack};
 
-/// What is written without identity reads back without fault, by each of the two dictionaries, as its normal form. It is
-/// of a data set that was read without fault by the whole dictionary, it is read in the syntax of the input, and it ends
-/// within the limit of an input. Nothing more is asked: each tag that is left is one of the dictionary, and no value
-/// that is left is a sequence to it. dcmdeid reads it so too.
+/// What is written without identity reads back without fault, by each of the two dictionaries, as its normal form. It
+/// is of a data set that was read without fault by the whole dictionary, it is read in the syntax of the input, and it
+/// ends within the limit of an input. Nothing more is asked: each tag that is left is one of the dictionary, and no
+/// value that is left is a sequence to it. dcmdeid reads it so too.
 pub fn deidentified_reads()
     ensures by_each { DeidentifiedReads }
     ensures for_dcmdeid { ReadsForDcmdeid }

@@ -5,7 +5,8 @@
 //! - `MemIn` and `MemOut` are over memory, and tell their bytes; `Measured` tells its size too. `Std` is over std's
 //!   readers and writers: proofs know which bytes they said they gave or took.
 //! - `Watched` is around a device, so that only the calls of this crate reach it: `get_some`, `put_all`, `put_array`,
-//!   `put_parts`, `put_decimal` and `flush_out`. After each of them it is known what went in or out, and whether the device failed.
+//!   `put_parts`, `put_decimal` and `flush_out`. After each of them it is known what went in or out, and whether the
+//!   device failed.
 //! - `specs` says what a call leaves: `Device` of any device, `Memory` of a `MemOut`.
 //!
 //! A text and a number into memory:

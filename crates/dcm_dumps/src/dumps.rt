@@ -64,8 +64,8 @@ impl DumpWork {
         self.number = self.number.saturating_add(1);
     }
 
-    /// Writes the heading of a file and its dump, and reports what is wrong with it. Answers the status. Fails where the
-    /// output fails.
+    /// Writes the heading of a file and its dump, and reports what is wrong with it. Answers the status. Fails where
+    /// the output fails.
     fn show<I: DeviceIn, W: DeviceOut, E: DeviceOut>(
         &mut self,
         name: &[u8],

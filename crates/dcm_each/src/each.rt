@@ -53,8 +53,9 @@ fn do_at<S: System, W: DeviceOut, E: DeviceOut, K: FileWork<S::Input, W>>(
     out: &mut Watched<W>,
     errors: &mut Watched<E>,
 ) -> Ends
-    ensures does { spec.DoesAt S.may_do K.work name.now path.now is_openable (change_of E.DeviceOut errors.old errors.new)
-        (work.old, out.old) (work.new, out.new) system.old result system.new }
+    ensures does { spec.DoesAt S.may_do K.work name.now path.now is_openable
+        (change_of E.DeviceOut errors.old errors.new) (work.old, out.old) (work.new, out.new) system.old result
+        system.new }
     ensures within { IfOk result (λ status. status ≤ statuses.DEVICE) }
 {
     let Some(opened) = open_at(system, is_openable, path) else {

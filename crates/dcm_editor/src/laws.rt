@@ -12,8 +12,8 @@ ghost use Rattle.dcm_editor.specs.Laws as laws;
 ghost use Rattle.dcm_edits.specs.Overlap.{AreApart, ArePublic};
 ghost use Rattle.dcm_edits.specs.Together.{together};
 
-/// Edits that do not overlap do at once what they do one after another. They name no odd group, and the tags of each data
-/// set ascend.
+/// Edits that do not overlap do at once what they do one after another. They name no odd group, and the tags of each
+/// data set ascend.
 pub fn one_by_one()
     ensures { (edits : List Edit) (f : Front) → AreApart edits → ArePublic edits → FrontAscends f
         → together edits f ≡ edited edits f }

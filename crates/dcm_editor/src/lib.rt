@@ -4,8 +4,8 @@
 //!   names are handed on here.
 //! - `EditSink` lies between the machine and another sink. It passes on what the edits make of the tokens, all edits at
 //!   once, in a state of fixed size, and `unplaced` says which of them have found no place so far.
-//! - `laws` has that they do what they would do one after another (`one_by_one`), and that what is written is the edited
-//!   data set (`edit_reads`). What that is promised to be is in dcm_editor_laws.
+//! - `laws` has that they do what they would do one after another (`one_by_one`), and that what is written is the
+//!   edited data set (`edit_reads`). What that is promised to be is in dcm_editor_laws.
 //!
 //! A name is erased:
 //!

@@ -74,8 +74,8 @@ pub trait Folders: System {
     fn make_folder(&mut self, path: &str) -> io::Result<()>
         ensures { folders_do.makes_folder self.old path.now result self.new };
 
-    /// What is written at a path at which nothing was, with these bits of its mode that the process leaves to new files.
-    /// An error where something is.
+    /// What is written at a path at which nothing was, with these bits of its mode that the process leaves to new
+    /// files. An error where something is.
     fn create_as(&mut self, path: &str, mode: u32) -> io::Result<Opened<Self::Output>>
         ensures { folders_do.makes_as self.old path.now mode result self.new };
 

@@ -40,8 +40,8 @@ impl Meta {
         n
     }
 
-    /// How many bytes at the front of these lead to nothing by themselves; 0 where that is not known, as within an element
-    /// of which another piece has the front.
+    /// How many bytes at the front of these lead to nothing by themselves; 0 where that is not known, as within an
+    /// element of which another piece has the front.
     fn idle(&self, rest: &[u8]) -> usize
         requires going { self.now.end ≡ None }
         ensures within { result ≤ length rest.now }

@@ -13,8 +13,8 @@ use dcm_base::{DeviceOut, Length, Syntax, Tag, Watched, WriteFailed, put_array};
 /// The bytes of a head.
 type HeadBytes = ArrayVec<u8, LONG_HEAD>;
 
-/// The bytes of a number. It is turned round as a whole before it is taken apart, so that the compiler sees the bytes of
-/// one number, and a head of them as a few shifts; to choose between bytes costs a choice for each.
+/// The bytes of a number. It is turned round as a whole before it is taken apart, so that the compiler sees the bytes
+/// of one number, and a head of them as a few shifts; to choose between bytes costs a choice for each.
 #[tactic(auto, using(crate::proofs::Heads::Turned::short_turned))]
 fn short_bytes(syntax: Syntax, number: u16) -> [u8; 2]
     ensures { result ≡ recode.number_bytes syntax w16 number }
@@ -119,8 +119,9 @@ pub fn element_head(syntax: Syntax, head: &Head) -> ArrayVec<u8, LONG_HEAD>
     }
 }
 
-/// Writes the bytes of an element's head, as `element_head` has them. They go out from the array that they are put together
-/// in, so that none is blanked or copied before. Fails where the writer fails, which has then taken a beginning of them.
+/// Writes the bytes of an element's head, as `element_head` has them. They go out from the array that they are put
+/// together in, so that none is blanked or copied before. Fails where the writer fails, which has then taken a
+/// beginning of them.
 pub fn put_element_head<W: DeviceOut>(
     out: &mut Watched<W>,
     syntax: Syntax,

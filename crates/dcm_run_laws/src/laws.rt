@@ -147,8 +147,8 @@ pub fn instance_agrees()
 {}
 
 /// dcmdeid on its own output, with the same options, writes the same bytes again. No value is made anew (unique
-/// identifiers are retained, and neither pseudonyms nor moved dates are asked for), and the first run is on a file without
-/// fault. The second one refuses nothing: its status is 0 or 3.
+/// identifiers are retained, and neither pseudonyms nor moved dates are asked for), and the first run is on a file
+/// without fault. The second one refuses nothing: its status is 0 or 3.
 pub fn deidentified_twice()
     ensures { DeidentifiedTwice }
 {}

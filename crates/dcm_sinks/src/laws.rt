@@ -58,8 +58,8 @@ pub fn encode_bars()
     ensures { (target : Syntax) → BarsAs (bars_by encode_bar encode_step (encode_start target)) (target_bar target) }
 {}
 
-/// What is converted without fault reads back in the target syntax, without fault, as its normal form. So it is where it
-/// ends within the limit of an input, and the data set fits the target: its dictionary tells values from sequences.
+/// What is converted without fault reads back in the target syntax, without fault, as its normal form. So it is where
+/// it ends within the limit of an input, and the data set fits the target: its dictionary tells values from sequences.
 pub fn recode_reads()
     ensures { ReadsBack }
 {}

@@ -13,8 +13,9 @@ pub fn done_is_sound()
     ensures { DoneIsSound }
 {}
 
-/// Of a sound file dcmconv answers the head, written anew, and the data set in the target syntax. The head is the preamble,
-/// the prefix and the new meta group. It reports nothing, and its status is 0. The target can hold the data set.
+/// Of a sound file dcmconv answers the head, written anew, and the data set in the target syntax. The head is the
+/// preamble, the prefix and the new meta group. It reports nothing, and its status is 0. The target can hold the data
+/// set.
 pub fn converts_sound()
     ensures { ConvertsSound }
 {}
@@ -25,9 +26,9 @@ pub fn edits_sound()
     ensures { EditsSound }
 {}
 
-/// Of the full dump of a sound file dump2dcm answers what `dcmconv +t=` answers of the file, but for the preamble. That is
-/// zeros. It reports nothing, and its status is 0. Values are of whole units, the tags of each data set ascend, and no
-/// line passes the limit.
+/// Of the full dump of a sound file dump2dcm answers what `dcmconv +t=` answers of the file, but for the preamble. That
+/// is zeros. It reports nothing, and its status is 0. Values are of whole units, the tags of each data set ascend, and
+/// no line passes the limit.
 pub fn builds_sound()
     ensures { BuildsSound }
 {}

@@ -176,8 +176,8 @@ impl Cursor {
         self.settle(sink)
     }
 
-    /// Goes into what a head before this place opens, or out of what it closes. Each token is given where it is made, so
-    /// that a sink's call, which is inlined, does not ask again what it is.
+    /// Goes into what a head before this place opens, or out of what it closes. Each token is given where it is made,
+    /// so that a sink's call, which is inlined, does not ask again what it is.
     #[inline(always)]
     fn enter<S: Sink>(&mut self, opening: Opening, sink: &mut S) -> Result<(), Halt>
         requires head { self.old.head.items ≡ [] }
@@ -277,8 +277,8 @@ impl Cursor {
         self.settle(sink)
     }
 
-    /// Reads the head that the bytes begin with, and its value where that is whole too, or all of the bytes where not even
-    /// the head is.
+    /// Reads the head that the bytes begin with, and its value where that is whole too, or all of the bytes where not
+    /// even the head is.
     #[inline(always)]
     pub fn read_head<S: Sink>(&mut self, bytes: &[u8], sink: &mut S) -> Result<usize, Halt>
         requires stands { spec.Stands (spec.reading self.old None) }

@@ -93,7 +93,8 @@ fn judge_shape(
     levels: &OpenLevels,
 ) -> Result<Opening, Fault>
     requires { size ≤ INPUT_LIMIT }
-    ensures judges { spec.JudgesShape syntax head size (place.room position levels.now) (place.depth levels.now) result }
+    ensures judges { spec.JudgesShape syntax head size (place.room position levels.now) (place.depth levels.now)
+        result }
     ensures sized { IfOk result spec.IsSized }
 {
     let room = levels.room(position);

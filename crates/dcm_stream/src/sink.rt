@@ -49,8 +49,8 @@ pub trait Sink {
         ensures failed { Tells (has_failed self.old) (has_failed self.new) result }
         ensures kept { kept self.new ≡ kept self.old };
 
-    /// Takes an element with its whole value by its tokens, one after another: its head, its bytes where it has any, and
-    /// its end. So a sink takes one for which it has no shorter way; none has a body of its own for it.
+    /// Takes an element with its whole value by its tokens, one after another: its head, its bytes where it has any,
+    /// and its end. So a sink takes one for which it has no shorter way; none has a body of its own for it.
     #[inline(always)]
     fn take_by_tokens(
         &mut self,
@@ -72,9 +72,9 @@ pub trait Sink {
         self.take(Token::CloseLeaf)
     }
 
-    /// Takes an element whose value is whole, as long as its head says, as `take_by_tokens` does. Most elements come so. A
-    /// sink whose state stays the same over one, or that needs less to be held for it, has a shorter way in a body of its
-    /// own.
+    /// Takes an element whose value is whole, as long as its head says, as `take_by_tokens` does. Most elements come
+    /// so. A sink whose state stays the same over one, or that needs less to be held for it, has a shorter way in a
+    /// body of its own.
     #[inline(always)]
     fn take_whole(&mut self, head: Head, syntax: Syntax, value: &[u8]) -> Result<(), WriteFailed>
         requires { IsLeaf head syntax value.now }
@@ -88,8 +88,8 @@ pub trait Sink {
         self.take_by_tokens(head, syntax, value)
     }
 
-    /// Takes such an element as `take_whole` does, and says where the writer failed whether what its head makes was out.
-    /// So a sink that passes it on is then where `take` would have left it.
+    /// Takes such an element as `take_whole` does, and says where the writer failed whether what its head makes was
+    /// out. So a sink that passes it on is then where `take` would have left it.
     #[inline(always)]
     fn take_whole_telling(
         &mut self,

@@ -229,8 +229,8 @@ impl Cells {
     }
 }
 
-/// Whether an element with its whole value changes no cell: no value is on its way, and it is within another element, or
-/// no column has its tag and it sets nothing.
+/// Whether an element with its whole value changes no cell: no value is on its way, and it is within another element,
+/// or no column has its tag and it sets nothing.
 #[inline(always)]
 fn passes_by(setting: &Setting, busy: Span, depth: Skip, index: &Index, head: &Head) -> bool
     ensures { result ≡ places.passes_by setting.now.is_open busy (open_things depth) index.now head.now }

@@ -34,7 +34,8 @@ fn is_printable(text: &[u8]) -> bool
     text.iter().all(|byte| 0x20 <= *byte && *byte <= 0x7E)
 }
 
-/// Writes a text by what is in force, in double quotes: its characters in UTF-8, and bytes without a character as `\xNN`.
+/// Writes a text by what is in force, in double quotes: its characters in UTF-8, and bytes without a character as
+/// `\xNN`.
 pub fn put_decoded<W: DeviceOut>(
     sets: Sets,
     kind: TextKind,

@@ -12,8 +12,8 @@ pub fn meta_steps()
     ensures sets { MetaSetsNothing }
 {}
 
-/// After what was read of a data set they hold the first of its tag, where there was none before, with what is in force at
-/// its head.
+/// After what was read of a data set they hold the first of its tag, where there was none before, with what is in force
+/// at its head.
 pub fn row_steps()
     ensures { RowSteps }
 {}

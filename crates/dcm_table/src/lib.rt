@@ -5,11 +5,11 @@
 //! - `Cells` hold, of each column, the first element of its tag at the outermost level of a file: its value of at most
 //!   16,384 bytes, or why it is not shown. They are a `Sink`, so a `Machine` is fed with them; their memory is taken
 //!   once, and `clear` makes them empty for the next file. They bar the first head of the outermost level that is above
-//!   the greatest column: nothing after it can change the row. `row_end` says whether a reading ended so. With each cell
-//!   they hold what is in force of Specific Character Set at the head of its element.
+//!   the greatest column: nothing after it can change the row. `row_end` says whether a reading ended so. With each
+//!   cell they hold what is in force of Specific Character Set at the head of its element.
 //! - `take_meta` gives them the elements of the meta group.
-//! - `put_header` and `put_row` write a row, `put_quoted` and `put_decoded` one text of it; `TextForm` says whether texts
-//!   are decoded by Specific Character Set (0008,0005), and whether bytes that are no UTF-8 are escaped.
+//! - `put_header` and `put_row` write a row, `put_quoted` and `put_decoded` one text of it; `TextForm` says whether
+//!   texts are decoded by Specific Character Set (0008,0005), and whether bytes that are no UTF-8 are escaped.
 //!
 //! A file's row:
 //!

@@ -5,8 +5,8 @@ use crate::cell::Progress;
 use dcm_base::Tag;
 use dcm_text::Sets;
 
-/// A column's tag, its cell, and what is in force where its first element stands. The value is the first `size` bytes of
-/// the room.
+/// A column's tag, its cell, and what is in force where its first element stands. The value is the first `size` bytes
+/// of the room.
 #[derive(Drop)]
 pub struct Slot {
     pub tag: Tag,

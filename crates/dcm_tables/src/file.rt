@@ -70,8 +70,8 @@ pub fn read_file<R: DeviceIn>(
     read_file_with(&mut meta, input, buffer, cells)
 }
 
-/// Reads of a file what its row shows, its head by a reader that may have read other files. The cells and the reader are
-/// emptied first.
+/// Reads of a file what its row shows, its head by a reader that may have read other files. The cells and the reader
+/// are emptied first.
 pub fn read_file_with<R: DeviceIn>(
     meta: &mut Meta,
     input: &mut Watched<R>,

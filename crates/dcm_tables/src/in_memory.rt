@@ -15,10 +15,10 @@ use dcm_files::MemSystem;
 use std::alloc::Global;
 
 /// Obeys words over files in memory. Where they ask for a table and there is room for it, the output is the header and
-/// the row of each file, in the order of the names, and each row is what the bytes of its file give. A list has the names
-/// in the bytes of its file, and at most 2^62 of them are read. Where there is room for the lines, they are written too.
-/// Where they ask for dumps of several files, the output is the heading and the dump of each file in the same way. Other
-/// words are obeyed as `dcm_cli` does, where they do not ask for a run over a tree.
+/// the row of each file, in the order of the names, and each row is what the bytes of its file give. A list has the
+/// names in the bytes of its file, and at most 2^62 of them are read. Where there is room for the lines, they are
+/// written too. Where they ask for dumps of several files, the output is the heading and the dump of each file in the
+/// same way. Other words are obeyed as `dcm_cli` does, where they do not ask for a run over a tree.
 pub fn obey_in_memory<'a>(
     alloc: Global,
     words: &[&[u8]],

@@ -21,8 +21,8 @@ pub fn row_stays()
     ensures { RowStays }
 {}
 
-/// A row that more bytes cannot change is decided by a beginning of the file, whatever follows it. No shorter one decides
-/// it. A row that a head above all columns ends is decided.
+/// A row that more bytes cannot change is decided by a beginning of the file, whatever follows it. No shorter one
+/// decides it. A row that a head above all columns ends is decided.
 pub fn row_is_decided()
     ensures front { RowIsDecided }
     ensures sure { DecidedIsSure }
@@ -48,8 +48,8 @@ pub fn row_is_utf8()
     ensures { RowIsUtf8 }
 {}
 
-/// The cell of a text has what a full dump shows of it, its escapes undone. Its bytes are as they are, and pads at its end
-/// are left out. Of a unique identifier that the dump shows by its name, it is the identifier.
+/// The cell of a text has what a full dump shows of it, its escapes undone. Its bytes are as they are, and pads at its
+/// end are left out. Of a unique identifier that the dump shows by its name, it is the identifier.
 pub fn cell_is_shown()
     ensures { CellIsShown }
 {}

@@ -2,8 +2,8 @@
 //!
 //! - `read_file` reads of one file what its row shows, into `Cells` of dcm_table.
 //! - `write_table` goes over all names: it opens a file, writes its row, and reports what is wrong with it.
-//! - `dcmtools` does what words say: dcm2csv here, dcmdump of several files in dcm_dumps, trees of files in dcm_trees, all
-//!   else in dcm_cli. It answers how it `Ended`.
+//! - `dcmtools` does what words say: dcm2csv here, dcmdump of several files in dcm_dumps, trees of files in dcm_trees,
+//!   all else in dcm_cli. It answers how it `Ended`.
 //! - `obey_in_memory` does so over files in memory.
 #![tactic(auto)]
 

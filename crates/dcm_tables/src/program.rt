@@ -79,8 +79,8 @@ fn flush_table<W: DeviceOut, E: DeviceOut>(
     out: &mut Watched<W>,
     errors: &mut Watched<E>,
 ) -> u8
-    ensures flushes { spec.FlushesTable W.DeviceOut (change_of E.DeviceOut errors.old errors.new) out.old out.new reached
-        result }
+    ensures flushes { spec.FlushesTable W.DeviceOut (change_of E.DeviceOut errors.old errors.new) out.old out.new
+        reached result }
     ensures within { reached ≤ statuses.DEVICE → result ≤ statuses.DEVICE }
 {
     match flush_out(out) {

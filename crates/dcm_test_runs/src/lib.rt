@@ -1,12 +1,13 @@
-//! What the tests of whole runs share: tables of runs, runs over memory and over std, and what is wanted of them. It is no
-//! part of the program.
+//! What the tests of whole runs share: tables of runs, runs over memory and over std, and what is wanted of them. It is
+//! no part of the program.
 //!
-//! - A `Row` is a run: its words and input, and what is wanted of it. `dumps`, `conversions`, `buildings`, `modifications`,
-//!   `dictionaries`, `signs`, `unknown`, `text_sets`, `text_extensions`, `text_terms`, `text_cuts`, `identities`, `identity_days`, `identity_put`, `identity_moved`, `identity_named` and
-//!   `identity_faults` are tables of rows.
+//! - A `Row` is a run: its words and input, and what is wanted of it. `dumps`, `conversions`, `buildings`,
+//!   `modifications`, `dictionaries`, `signs`, `unknown`, `text_sets`, `text_extensions`, `text_terms`, `text_cuts`,
+//!   `identities`, `identity_days`, `identity_put`, `identity_moved`, `identity_named` and `identity_faults` are tables
+//!   of rows.
 //! - `expect_rows` expects the answers of rows. `expect_runs` expects one, in pieces of several sizes.
-//! - `over_memory` and `over_std` are runs of words over one input, and `expect_answer` compares an `Answer` with what is
-//!   `Wanted`.
+//! - `over_memory` and `over_std` are runs of words over one input, and `expect_answer` compares an `Answer` with what
+//!   is `Wanted`.
 //! - `nested`, `sixty_four` and `letters` are deep and long files.
 #![tactic(auto)]
 

@@ -22,8 +22,8 @@ fn lowest_set(bits: u64) -> usize
     }
 }
 
-/// How many of eight bytes in front a dump shows as they are, whatever Specific Character Set is in force: those of ASCII
-/// but controls, `%` and `]`. They are compared together, and one mask of eight bits tells the first other one.
+/// How many of eight bytes in front a dump shows as they are, whatever Specific Character Set is in force: those of
+/// ASCII but controls, `%` and `]`. They are compared together, and one mask of eight bits tells the first other one.
 #[inline(always)]
 pub fn ascii_of_eight(bytes: u8x8) -> usize
     ensures { result ≡ ascii_size bytes }

@@ -1,5 +1,6 @@
 //! A text in pieces of any size, as characters.
-ghost use Rattle.std.specs.Prelude.{◌≡◌, ◌<◌, ◌≤◌, ◌+◌, ◌∷◌, [], ◌++◌, true, false, List, ℕ, length, drop, take, IfSome, IfNone, MatchOption, Some, None};
+ghost use Rattle.std.specs.Prelude.{◌≡◌, ◌<◌, ◌≤◌, ◌+◌, ◌∷◌, [], ◌++◌, true, false, List, ℕ, length, drop, take};
+ghost use Rattle.std.specs.Prelude.{IfSome, IfNone, MatchOption, Some, None};
 ghost use Rattle.dcm_text.specs.Decoding as spec;
 ghost use Rattle.dcm_text.specs.Runs as runs;
 
@@ -180,15 +181,16 @@ impl Decoder {
         }
     }
 
-    /// The next part, and the input behind it; or nothing, where all of the input is taken and nothing is decided of the
-    /// bytes that wait. Then the text goes on with the next input. At its end nothing waits.
+    /// The next part, and the input behind it; or nothing, where all of the input is taken and nothing is decided of
+    /// the bytes that wait. Then the text goes on with the next input. At its end nothing waits.
     pub fn next<'a>(&mut self, input: &'a [u8], at_end: bool) -> Option<(Part, &'a [u8])>
         // The part is the first that a run over the input gives, and the run goes on behind it.
         ensures part { IfSome result (λ r. runs.run at_end (runs.state_of self.old) input.now
             ≡ runs.onto (spec.piece_of r.0) (runs.run at_end (runs.state_of self.new) r.1.now)) }
         ensures fewer { IfSome result (λ r. runs.bytes_left self.new r.1.now < runs.bytes_left self.old input.now) }
         // Or the run is at its end.
-        ensures none { IfNone result (runs.run at_end (runs.state_of self.old) input.now ≡ ([], runs.state_of self.new)) }
+        ensures none { IfNone result (runs.run at_end (runs.state_of self.old) input.now ≡
+            ([], runs.state_of self.new)) }
     {
         self.step(input, at_end)
     }

@@ -300,8 +300,8 @@ fn first_by_all(sets: &Sets, kind: TextKind, halves: Halves, text: &[u8]) -> Opt
     opened(opening_of(halves, *byte), sets, kind, halves, text)
 }
 
-/// What a text begins with, or nothing where all of it may be a part of something. Nearly all characters of more than one
-/// byte are read directly.
+/// What a text begins with, or nothing where all of it may be a part of something. Nearly all characters of more than
+/// one byte are read directly.
 #[inline(always)]
 pub(crate) fn first_of(sets: &Sets, kind: TextKind, halves: Halves, text: &[u8]) -> Option<Found>
     ensures { result ≡ spec.first_of sets.now kind halves text.now }

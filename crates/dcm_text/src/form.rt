@@ -111,8 +111,8 @@ pub(crate) fn right_opening(right: Right, byte: u8) -> Opening
 /// What a byte that goes on a character of UTF-8 may be.
 const NEXT: Range = (0x80, 0xBF);
 
-/// What may follow the first byte of a character of UTF-8 (Unicode, table 3-7): none overlong, no surrogate, and nothing
-/// above 10FFFF.
+/// What may follow the first byte of a character of UTF-8 (Unicode, table 3-7): none overlong, no surrogate, and
+/// nothing above 10FFFF.
 fn utf8_ranges(first: u8) -> &'static [Range]
     ensures { result.now ≡ spec.utf8_ranges first }
 {

@@ -77,8 +77,8 @@ fn behind_few(first: u8, after: &[u8]) -> Option<&[u8]>
     }
 }
 
-/// What is behind the bytes of ASCII in front that a dump shows as they are: eight are looked at together, as letters of
-/// ASCII come in runs. Fewer than eight bytes are not looked at.
+/// What is behind the bytes of ASCII in front that a dump shows as they are: eight are looked at together, as letters
+/// of ASCII come in runs. Fewer than eight bytes are not looked at.
 #[inline(always)]
 fn behind_ascii(text: &[u8]) -> &[u8]
     ensures behind { AreBehind text.now result.now }

@@ -1,5 +1,6 @@
 //! Laws of the definitions. Each function takes nothing and makes no call: its contract is the law.
-ghost use Rattle.std.specs.Prelude.{◌≡◌, ◌++◌, ◌==◌, ◌||◌, ℕ, Bool, Some, true, false, List, map, flat_map, codes, encode_utf8_all, IsUtf8};
+ghost use Rattle.std.specs.Prelude.{◌≡◌, ◌++◌, ◌==◌, ◌||◌, ℕ, Bool, Some, true, false, List, map, flat_map, codes};
+ghost use Rattle.std.specs.Prelude.{encode_utf8_all, IsUtf8};
 ghost use Rattle.std.specs.List.{concat, list_all};
 ghost use Rattle.std.specs.Str.{all_scalars};
 ghost use Rattle.dcm_text.specs.Characters.{single_character};
@@ -23,7 +24,8 @@ pub fn pieces_do_not_matter()
     ensures whole { (sets : Sets) (kind : TextKind) (pieces : List (List ℕ))
         → (run_pieces (begun sets kind) pieces).0 ≡ decoded sets kind (concat pieces) }
     ensures two { (at_end : Bool) (state : State) (piece more : List ℕ)
-        → run at_end state (piece ++ more) ≡ joined (run false state piece) (run at_end (run false state piece).1 more) }
+        → run at_end state (piece ++ more) ≡ joined (run false state piece) (run at_end (run false state piece).1
+        more) }
 {}
 
 /// A text of ASCII is its bytes, whatever is in force, where it designates nothing.

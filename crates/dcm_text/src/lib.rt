@@ -1,12 +1,13 @@
-//! Texts by Specific Character Set (0008,0005), as characters (PS3.3 C.12.1.1.2, PS3.5 6.1.2). This crate knows nothing of
-//! data sets.
+//! Texts by Specific Character Set (0008,0005), as characters (PS3.3 C.12.1.1.2, PS3.5 6.1.2). This crate knows nothing
+//! of data sets.
 //!
 //! - `sets_of` reads a value of (0008,0005): `Sets` are what is in force by it.
 //! - A `Decoder` takes a text in pieces of any size, and gives `Part`s: a character with its bytes, bytes without a
-//!   character, or a designation, which shows nothing. It holds at most three bytes, those of which nothing is decided yet.
+//!   character, or a designation, which shows nothing. It holds at most three bytes, those of which nothing is decided
+//!   yet.
 //! - `TextPieces` takes a text that is there as a whole, copies nothing, and gives the same.
-//! - `dumped` is what a dump shows of a part, and `in_cell` what a cell of a table does. `ascii_of_eight` says how many of eight
-//!   bytes a dump shows as they are in any case.
+//! - `dumped` is what a dump shows of a part, and `in_cell` what a cell of a table does. `ascii_of_eight` says how many
+//!   of eight bytes a dump shows as they are in any case.
 //!
 //! A text that is whole:
 //!

@@ -1,5 +1,5 @@
-//! What a text begins with, where nearly all characters of more than one byte are read directly, without a table of what
-//! may follow a byte.
+//! What a text begins with, where nearly all characters of more than one byte are read directly, without a table of
+//! what may follow a byte.
 ghost use Rattle.std.specs.Prelude.{◌≡◌, ◌∷◌, ◌&&◌, ◌==◌, not, IfSome};
 ghost use Rattle.dcm_text.specs.Characters.{is_between};
 ghost use Rattle.dcm_text.specs.Quick.{IsFirst, Designates, designated_left, read as spec_read};

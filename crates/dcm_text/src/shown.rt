@@ -49,8 +49,8 @@ fn is_in(mut ranges: &[Characters], number: u32) -> bool
     false
 }
 
-/// Whether a dump shows a character by its bytes: it shows nothing, or changes how others are shown, or is none (the last
-/// two of each plane).
+/// Whether a dump shows a character by its bytes: it shows nothing, or changes how others are shown, or is none (the
+/// last two of each plane).
 #[inline(always)]
 pub fn is_hidden(character: char) -> bool
     ensures { result ≡ spec.is_hidden character }
@@ -125,7 +125,8 @@ fn append<const N: usize>(bytes: &[u8], text: &mut ArrayVec<u8, N>)
     }
 }
 
-/// The same for a character by its bytes. Nearly all characters of Asia have three, and so many are copied without a call.
+/// The same for a character by its bytes. Nearly all characters of Asia have three, and so many are copied without a
+/// call.
 #[inline(always)]
 fn append_character<const N: usize>(bytes: &[u8], text: &mut ArrayVec<u8, N>)
     requires { length text.old.items + length bytes.now ≤ N }
@@ -172,8 +173,8 @@ fn encoded<const N: usize>(character: char) -> ArrayVec<u8, N>
     text
 }
 
-/// What a dump shows of a part: a character as it is, but of what is escaped or hidden, or has no character, each byte as
-/// `%XX`; of a designation nothing.
+/// What a dump shows of a part: a character as it is, but of what is escaped or hidden, or has no character, each byte
+/// as `%XX`; of a designation nothing.
 pub fn dumped(part: &Part) -> ArrayVec<u8, MOST_DUMPED>
     ensures { result.items ≡ spec.dumped_piece (piece_of part.now) }
 {
@@ -201,7 +202,8 @@ pub fn append_dumped<const N: usize>(bytes: &[u8], meaning: Meaning, text: &mut 
     }
 }
 
-/// What a cell shows of a part: a character as it is, and bytes without a character as `\xNN`; of a designation nothing.
+/// What a cell shows of a part: a character as it is, and bytes without a character as `\xNN`; of a designation
+/// nothing.
 pub fn in_cell(part: &Part) -> ArrayVec<u8, MOST_IN_CELL>
     ensures { result.items ≡ spec.cell_piece (piece_of part.now) }
 {

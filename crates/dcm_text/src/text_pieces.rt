@@ -1,5 +1,6 @@
 //! A text that is there as a whole, piece by piece.
-ghost use Rattle.std.specs.Prelude.{◌≡◌, ◌≤◌, ◌∷◌, [], ◌++◌, true, List, length, take, drop, map, IfSome, IfNone, MatchOption};
+ghost use Rattle.std.specs.Prelude.{◌≡◌, ◌≤◌, ◌∷◌, [], ◌++◌, true, List, length, take, drop, map, IfSome, IfNone};
+ghost use Rattle.std.specs.Prelude.{MatchOption};
 ghost use Rattle.std.specs.List.{list_all};
 ghost use Rattle.dcm_text.specs.Decoding.{decoded, decoded_from};
 ghost use Rattle.dcm_text.specs.First as first;
@@ -90,9 +91,9 @@ impl<'a> TextPieces<'a> {
         front
     }
 
-    /// Passes over characters in front that a dump shows as they are, and gives their bytes, at most so many: all of one,
-    /// two or three bytes, where UTF-8 is in force and the text goes on as it began. So it does behind them. Elsewhere
-    /// nothing is passed over.
+    /// Passes over characters in front that a dump shows as they are, and gives their bytes, at most so many: all of
+    /// one, two or three bytes, where UTF-8 is in force and the text goes on as it began. So it does behind them.
+    /// Elsewhere nothing is passed over.
     #[inline(always)]
     pub fn pass_shown(&mut self, most: usize) -> &'a [u8]
         ensures bytes { self.old.rest.now ≡ result.now ++ self.new.rest.now }

@@ -3,7 +3,8 @@
 //! - `asks_tree` says whether words ask for such a run.
 //! - `words_of_one` takes the words of a tree out of them, so that those are left which mean the job of one file.
 //!   dcm_words alone knows what these mean.
-//! - `tree_plan` reads both into a `TreePlan`: the source of names, `TreeOptions`, and what dcm_words plans for one file.
+//! - `tree_plan` reads both into a `TreePlan`: the source of names, `TreeOptions`, and what dcm_words plans for one
+//!   file.
 //! - Words that are refused are a `Usage` of dcm_words, with the number that a word has among all of them.
 //! - `part_of` reads a `Part`.
 //! - `laws` has a law of the definitions: words that ask for such a run ask for no text.

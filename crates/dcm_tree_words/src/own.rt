@@ -70,7 +70,8 @@ fn and_own<'a, A: Allocator>(
     words: &mut Vec<&'a [u8], A>,
     piece: Piece<'a>,
 ) -> Result<(), AllocError>
-    ensures { IfOk result (λ u. texts words.new.items ≡ texts words.old.items ++ spec.own_words (piece_as piece.entry ∷ [])) }
+    ensures { IfOk result (λ u. texts words.new.items ≡ texts words.old.items ++ spec.own_words
+        (piece_as piece.entry ∷ [])) }
 {
     match piece {
         Piece::Own(word) => words.push(word)?,
@@ -89,7 +90,8 @@ fn append_own<'a, A: Allocator>(
     tool: TreeTool,
     words: &'a [&'a [u8]],
 ) -> Result<(), AllocError>
-    ensures { IfOk result (λ u. texts own.new.items ≡ texts own.old.items ++ spec.own_words (pieces_of tool words.now)) }
+    ensures { IfOk result (λ u. texts own.new.items ≡ texts own.old.items ++ spec.own_words
+        (pieces_of tool words.now)) }
 {
     let mut at = 0;
     while let Some((piece, next)) = piece_at(tool, words, at) {
@@ -115,7 +117,8 @@ fn append_others<'a, A: Allocator>(
     name: &[u8],
     others: &'a [&'a [u8]],
 ) -> Result<(), AllocError>
-    ensures { IfOk result (λ u. texts own.new.items ≡ texts own.old.items ++ spec.others_alone name.now (texts others.now)) }
+    ensures { IfOk result (λ u. texts own.new.items ≡ texts own.old.items ++ spec.others_alone name.now
+        (texts others.now)) }
 {
     let Some(tool) = tree_tool(name) else {
         return append(own, others);

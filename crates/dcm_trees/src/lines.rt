@@ -37,8 +37,8 @@ fn put_edit<E: DeviceOut>(
     }
 }
 
-/// Writes which of so many edits found no place, each on a line, from this one on: bit 0 of the mask is set for it. After
-/// a line that failed no other is tried.
+/// Writes which of so many edits found no place, each on a line, from this one on: bit 0 of the mask is set for it.
+/// After a line that failed no other is tried.
 fn put_edits<E: DeviceOut>(
     name: &[u8],
     count: usize,

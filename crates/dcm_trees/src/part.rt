@@ -138,8 +138,8 @@ fn move_if_free<S: Folders>(part: &str, path: &str, base: usize, system: &mut S)
     }
 }
 
-/// Gives the part the name of its output, in folders that are there: a second name, which replaces nothing; or, where the
-/// file system has none, the part is moved, if nothing is at that name.
+/// Gives the part the name of its output, in folders that are there: a second name, which replaces nothing; or, where
+/// the file system has none, the part is moved, if nothing is at that name.
 fn give_second_name<S: Folders>(part: &[u8], path: &[u8], base: usize, system: &mut S) -> Naming
     requires { base ≤ length path.now }
     ensures { spec.GivesSecondName S.may_do S.folders_do part.now path.now base system.old result system.new }

@@ -105,8 +105,8 @@ fn run_plan<S: Folders, E: DeviceOut>(
     }
 }
 
-/// Does the run over a tree that words ask for, or reports why they are refused. Those that mean the job of one file are
-/// given too.
+/// Does the run over a tree that words ask for, or reports why they are refused. Those that mean the job of one file
+/// are given too.
 fn obey_one<S: Folders, E: DeviceOut>(
     system: &mut S,
     alloc: Global,

@@ -186,8 +186,8 @@ pub(crate) fn end_run<W: DeviceOut, E: DeviceOut>(
     part: &[u8],
     errors: &mut Watched<E>,
 ) -> (u8, Watched<W>)
-    ensures ends { spec.EndsRun E.DeviceOut (progress work.entry) work.entry.shared.shows_counts walked list.now part.now
-        errors.old result.0 errors.new }
+    ensures ends { spec.EndsRun E.DeviceOut (progress work.entry) work.entry.shared.shows_counts walked list.now
+        part.now errors.old result.0 errors.new }
     ensures manifest { result.1 ≡ work.entry.manifest }
     ensures within { result.0 ≤ statuses.DEVICE }
 {

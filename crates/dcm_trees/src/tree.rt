@@ -32,8 +32,8 @@ fn open_at<S: Folders>(path: &[u8], system: &mut S) -> Option<S::Folder>
     }
 }
 
-/// Opens the folder whose files are done. It may be a link to one: the system opens none by the name of a link, and so the
-/// name that the folder has for itself stands behind it, where there is room.
+/// Opens the folder whose files are done. It may be a link to one: the system opens none by the name of a link, and so
+/// the name that the folder has for itself stands behind it, where there is room.
 fn open_tree<S: Folders>(path: &[u8], system: &mut S) -> Option<S::Folder>
     ensures { spec.OpensTree S.folders_do path.now system.old result system.new }
 {

@@ -45,8 +45,8 @@ fn put_whole_row<W: DeviceOut>(
     word: &[u8],
     out: &mut Watched<W>,
 ) -> Result<(), WriteFailed>
-    ensures { spec.PutsRow W.DeviceOut (spec.row name.now (option_map (λ o. o.now) output.entry) word.now) out.old result
-        out.new }
+    ensures { spec.PutsRow W.DeviceOut (spec.row name.now (option_map (λ o. o.now) output.entry) word.now) out.old
+        result out.new }
 {
     put_row(name, output, word, out)?;
     flush_out(out)

@@ -22,10 +22,11 @@ pub fn messages_differ()
     ensures no_uids { (name patient b : List ℕ) → is_one_uid b ≡ true → message name patient ≢ b }
 {}
 
-/// The days by which dates of a patient are moved are a function of the key and of the patient: 1 to 3,652 days into the
-/// past.
+/// The days by which dates of a patient are moved are a function of the key and of the patient: 1 to 3,652 days into
+/// the past.
 pub fn one_patient_one_move()
-    ensures agree { (key one other : List ℕ) → patient one ≡ patient other → days key (patient one) ≡ days key (patient other) }
+    ensures agree { (key one other : List ℕ) → patient one ≡ patient other → days key (patient one) ≡ days key
+        (patient other) }
     ensures past { (key patient : List ℕ) → days key patient ≤ℤ negsuc 0 }
     ensures within { (key patient : List ℕ) → negsuc 3651 ≤ℤ days key patient }
 {}

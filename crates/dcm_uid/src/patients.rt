@@ -78,8 +78,8 @@ fn show_code(code: &[u8; 32], out: &mut ArrayVec<u8, PSEUDONYM_SIZE>)
     }
 }
 
-/// What takes the place of a PatientID under a key, without padding: P and twenty hexadecimal digits, which are the same
-/// for the same patient, and nothing where it names none.
+/// What takes the place of a PatientID under a key, without padding: P and twenty hexadecimal digits, which are the
+/// same for the same patient, and nothing where it names none.
 #[tactic(auto, unfolding(crate::specs::Pseudonym::pseudonym))]
 pub fn pseudonym(key: &Key, value: &[u8]) -> ArrayVec<u8, PSEUDONYM_SIZE>
     ensures { (k : List ℕ) → IsKey key.now k → result.items ≡ spec.pseudonym k value.now }

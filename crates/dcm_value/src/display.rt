@@ -1,5 +1,6 @@
 // What is shown of a value, cut or whole.
-ghost use Rattle.std.specs.Prelude.{◌≡◌, ◌==◌, ◌&&◌, nat_lt, ◌+◌, ◌-◌, ◌*◌, ◌/◌, ◌<◌, ◌≤◌, ◌++◌, length, take, replicate, List};
+ghost use Rattle.std.specs.Prelude.{◌≡◌, ◌==◌, ◌&&◌, nat_lt, ◌+◌, ◌-◌, ◌*◌, ◌/◌, ◌<◌, ◌≤◌, ◌++◌, length, take};
+ghost use Rattle.std.specs.Prelude.{replicate, List};
 ghost use Rattle.std.specs.Prelude.{ℕ, OnOk, true};
 ghost use Rattle.dcm_value.specs.Emits.{Emits};
 ghost use Rattle.dcm_base.specs.Dump.ValueText.{escaped, identified, shape, shown_unit as unit_size};

@@ -1,5 +1,6 @@
 // The bytes of a text as a dump shows them.
-ghost use Rattle.std.specs.Prelude.{◌≡◌, ◌<◌, ◌≤◌, ◌+◌, ◌*◌, ◌++◌, ◌/◌, ◌%◌, ◌==◌, ◌&&◌, if◌then◌else◌, [], ◌∷◌, length, drop, not, nat_lt};
+ghost use Rattle.std.specs.Prelude.{◌≡◌, ◌<◌, ◌≤◌, ◌+◌, ◌*◌, ◌++◌, ◌/◌, ◌%◌, ◌==◌, ◌&&◌, if◌then◌else◌, [], ◌∷◌};
+ghost use Rattle.std.specs.Prelude.{length, drop, not, nat_lt};
 ghost use Rattle.std.specs.Prelude.{count_by, position};
 ghost use Rattle.dcm_base.specs.Dump.ValueText as spec;
 ghost use Rattle.dcm_value.specs.Plain.{is_plain_byte, is_ascii_byte, ascii_size};
@@ -204,8 +205,8 @@ fn ascii_front_singly(bytes: &[u8]) -> usize
     }
 }
 
-/// How many bytes in front are shown as they are, whatever Specific Character Set is in force. Eight bytes are looked at
-/// together.
+/// How many bytes in front are shown as they are, whatever Specific Character Set is in force. Eight bytes are looked
+/// at together.
 pub fn ascii_front(bytes: &[u8]) -> usize
     ensures value { result ≡ ascii_size bytes.now }
     ensures most { result ≤ length bytes.now }

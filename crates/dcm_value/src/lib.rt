@@ -2,13 +2,14 @@
 //!
 //! - `ValueText` is the text of one value as a dump shows it, with its pad byte and its values counted. It is fed the
 //!   value in any pieces and writes the text as it goes; with `Mode::Short` it holds the 66 bytes that may be cut.
-//! - `DecodedText` is the same by Specific Character Set, for values that are shown in brackets or by name: characters in
-//!   UTF-8, and bytes without a character by their numbers.
-//! - `append_decoded` appends to a line what `DecodedText` shows of a whole value, without a state, where that fits a line,
-//!   and `put_decoded` writes it right out in full mode, where it does not.
+//! - `DecodedText` is the same by Specific Character Set, for values that are shown in brackets or by name: characters
+//!   in UTF-8, and bytes without a character by their numbers.
+//! - `append_decoded` appends to a line what `DecodedText` shows of a whole value, without a state, where that fits a
+//!   line, and `put_decoded` writes it right out in full mode, where it does not.
 //! - `is_plain_value` tells whether a value is its bytes by each of these sets, so that `ValueText` shows the same.
 //! - `append_whole` appends to a line what a dump shows of a whole value, without a state, where that is known at once,
-//!   and `append_few` does so for few numbers. `append_whole_ascii` does so for what is shown alike by each of these sets.
+//!   and `append_few` does so for few numbers. `append_whole_ascii` does so for what is shown alike by each of these
+//!   sets.
 //! - `read_value` reads such a text back into the bytes of the value, in little endian; `read_value_into` does so in a
 //!   buffer.
 //! - `escape` and `unescape` are one byte of a text, `tag_of_text` a tag, `swap` turns the units of a big endian value.

@@ -82,8 +82,8 @@ fn next_single<'a>(pieces: &mut TextPieces<'a>) -> Option<Next<'a>>
     }
 }
 
-/// Takes bytes in front that are shown as they are, at most so many, and nothing where there are none. Where all of them
-/// are ASCII, no character is looked at.
+/// Takes bytes in front that are shown as they are, at most so many, and nothing where there are none. Where all of
+/// them are ASCII, no character is looked at.
 #[inline(always)]
 fn next_run<'a>(pieces: &mut TextPieces<'a>, most: usize) -> Option<Next<'a>>
     requires start { pieces.old.halves ≡ start_of pieces.old.sets }

@@ -1,5 +1,6 @@
 // Values from their texts.
-ghost use Rattle.std.specs.Prelude.{◌≡◌, ◌≢◌, ◌<◌, ◌≤◌, [], ◌∷◌, length, take, drop, codes, MatchOption, MatchResult, IfSome, position};
+ghost use Rattle.std.specs.Prelude.{◌≡◌, ◌≢◌, ◌<◌, ◌≤◌, [], ◌∷◌, length, take, drop, codes, MatchOption, MatchResult};
+ghost use Rattle.std.specs.Prelude.{IfSome, position};
 ghost use Rattle.std.specs.Prelude.{◌==◌, ◌||◌};
 ghost use Rattle.dcm_base.specs.Lines.ReadValue as spec;
 ghost use Rattle.dcm_base.specs.Tables.Representation.{unit};

@@ -79,7 +79,8 @@ fn append_plain<const N: usize>(text: &[u8], line: &mut ArrayVec<u8, N>) -> bool
     requires few { length text.now ≤ LONGEST_TEXT }
     requires room { length line.old.items + 66 ≤ N }
     ensures known { result ≡ spec.is_plain text.now }
-    ensures items { line.new.items ≡ (if result then line.old.items ++ padded (bracketed text.now) else line.old.items) }
+    ensures items { line.new.items ≡ (if result then line.old.items ++ padded (bracketed text.now) else
+        line.old.items) }
     ensures within { length line.new.items ≤ length line.old.items + 66 }
 {
     let is_plain = is_plain_text(text);
@@ -90,8 +91,9 @@ fn append_plain<const N: usize>(text: &[u8], line: &mut ArrayVec<u8, N>) -> bool
 }
 
 /// Appends what a dump shows of a whole value whatever Specific Character Set is in force, with the spaces up to 40
-/// bytes, where that is known at once: of a value without bytes, and of plain ASCII of at most 64 bytes, by its name or as
-/// it is. The answer is how many values there are; or nothing, and then nothing is appended. The bytes are looked at once.
+/// bytes, where that is known at once: of a value without bytes, and of plain ASCII of at most 64 bytes, by its name or
+/// as it is. The answer is how many values there are; or nothing, and then nothing is appended. The bytes are looked at
+/// once.
 pub fn append_whole_ascii<const N: usize>(
     vr: Vr,
     value: &[u8],
@@ -148,7 +150,8 @@ fn append_identified<const N: usize>(uid: &[u8], line: &mut ArrayVec<u8, N>) -> 
     requires few { length uid.now ≤ LONGEST_TEXT }
     requires room { length line.old.items + 66 ≤ N }
     ensures known { result ≡ spec.is_known_uid uid.now }
-    ensures items { line.new.items ≡ (if result then line.old.items ++ padded (identified uid.now) else line.old.items) }
+    ensures items { line.new.items ≡ (if result then line.old.items ++ padded (identified uid.now) else
+        line.old.items) }
     ensures within { length line.new.items ≤ length line.old.items + 66 }
 {
     let Some(name) = uid_name(uid) else {

@@ -29,10 +29,10 @@ const RUN: usize = 64;
 /// the twelve of a piece.
 pub const ROOM: usize = UNCUT + RUN + 12;
 
-/// Appends what a dump shows of a whole value by Specific Character Set, with the spaces up to 40 bytes. In short mode a
-/// long display is cut, and no character of it. The answer is how many values there are; or nothing, and then nothing is
-/// appended: of a value that may have a name, a unique identifier of at most 64 bytes, and in full mode of a display of
-/// more than 66 bytes. Both are left to `DecodedText`.
+/// Appends what a dump shows of a whole value by Specific Character Set, with the spaces up to 40 bytes. In short mode
+/// a long display is cut, and no character of it. The answer is how many values there are; or nothing, and then nothing
+/// is appended: of a value that may have a name, a unique identifier of at most 64 bytes, and in full mode of a display
+/// of more than 66 bytes. Both are left to `DecodedText`.
 pub fn append_decoded<const N: usize>(
     mode: Mode,
     vr: Vr,

@@ -1,5 +1,6 @@
 // The display of a whole value by Specific Character Set that goes right out, since it may be longer than a line.
-ghost use Rattle.std.specs.Prelude.{◌≡◌, if◌then◌else◌, ◌+◌, ◌<◌, ◌≤◌, ◌^◌, [], ◌++◌, length, codes, flat_map, nat_lt, OnOk, IfOk};
+ghost use Rattle.std.specs.Prelude.{◌≡◌, if◌then◌else◌, ◌+◌, ◌<◌, ◌≤◌, ◌^◌, [], ◌++◌, length, codes, flat_map, nat_lt};
+ghost use Rattle.std.specs.Prelude.{OnOk, IfOk};
 ghost use Rattle.dcm_base.specs.declared.mode.Mode.TheVariants.{Full};
 ghost use Rattle.dcm_base.specs.Dump.ValueText.{padded, is_single as is_one};
 ghost use Rattle.dcm_devices.specs.Writing.{Wrote};
@@ -122,7 +123,8 @@ fn put_full<W: DeviceOut>(
 ) -> Result<(), WriteFailed>
     ensures wrote { Wrote W.DeviceOut out.old out.new
         (if nat_lt FREE (length block.old.items) then block.old.items else []) result }
-    ensures block { OnOk result (block.new.items ≡ (if nat_lt FREE (length block.old.items) then [] else block.old.items)) }
+    ensures block { OnOk result (block.new.items ≡ (if nat_lt FREE (length block.old.items) then [] else
+        block.old.items)) }
 {
     if block.len() > FREE {
         put_all(out, block.as_slice())?;

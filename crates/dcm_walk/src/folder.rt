@@ -141,8 +141,9 @@ fn do_folder<S: Folders, E, V: Visitor<S, E>>(
 ) -> Result<(), Stopped>
     requires path { length named.path.now ≤ 4095 }
     requires base { walk.base ≤ length named.path.now + 1 }
-    ensures { spec.DoesFolder S.folders_do V.visits (spec.EntryAt S.folders_do V.visits walk levels named.entry.path.now)
-        (name_of named.entry) folder (visitor.old, errors.old) system.old result (visitor.new, errors.new) system.new }
+    ensures { spec.DoesFolder S.folders_do V.visits
+        (spec.EntryAt S.folders_do V.visits walk levels named.entry.path.now) (name_of named.entry) folder
+        (visitor.old, errors.old) system.old result (visitor.new, errors.new) system.new }
 {
     let mut folder = folder;
     let ended = do_names(
@@ -175,8 +176,8 @@ fn enter<S: Folders, E, V: Visitor<S, E>>(
 ) -> Result<(), Stopped>
     requires fit { spec.IsFit (name_of named) }
     requires base { walk.base ≤ length named.path.now + 1 }
-    ensures { spec.EntersAt S.folders_do V.visits walk levels found (name_of named.entry) (visitor.old, errors.old) system.old result
-        (visitor.new, errors.new) system.new }
+    ensures { spec.EntersAt S.folders_do V.visits walk levels found (name_of named.entry) (visitor.old, errors.old)
+        system.old result (visitor.new, errors.new) system.new }
 {
     if levels == 0 {
         return visitor.visit(system, errors, named, What::TooDeep);
@@ -202,8 +203,8 @@ fn do_fit<S: Folders, E, V: Visitor<S, E>>(
 ) -> Result<(), Stopped>
     requires fit { spec.IsFit (name_of named) }
     requires base { walk.base ≤ length named.path.now + 1 }
-    ensures { spec.DoesNamed S.folders_do V.visits (spec.EntersAt S.folders_do V.visits walk levels) (name_of named.entry)
-        (visitor.old, errors.old) system.old result (visitor.new, errors.new) system.new }
+    ensures { spec.DoesNamed S.folders_do V.visits (spec.EntersAt S.folders_do V.visits walk levels)
+        (name_of named.entry) (visitor.old, errors.old) system.old result (visitor.new, errors.new) system.new }
 {
     let Some(found) = seen(system, named.path) else {
         return visitor.visit(system, errors, named, What::Unseen);
@@ -229,8 +230,8 @@ fn do_entry<S: Folders, E, V: Visitor<S, E>>(
     requires folder { length folder.now ≤ 4095 }
     requires entry { length entry.now ≤ 4096 }
     requires base { walk.base ≤ length folder.now + 1 }
-    ensures { spec.EntryAt S.folders_do V.visits walk levels folder.now entry.now (visitor.old, errors.old) system.old result
-        (visitor.new, errors.new) system.new }
+    ensures { spec.EntryAt S.folders_do V.visits walk levels folder.now entry.now (visitor.old, errors.old) system.old
+        result (visitor.new, errors.new) system.new }
 {
     let path = below(folder, entry);
     let named = named_at(walk.base, path.as_slice());
@@ -240,8 +241,8 @@ fn do_entry<S: Folders, E, V: Visitor<S, E>>(
     }
 }
 
-/// Goes over the names in a folder that was opened at a path, and enters each folder in it. The folder itself is visited
-/// as `.` where it cannot be listed to its end.
+/// Goes over the names in a folder that was opened at a path, and enters each folder in it. The folder itself is
+/// visited as `.` where it cannot be listed to its end.
 pub fn walk_folder<S: Folders, E, V: Visitor<S, E>>(
     path: &[u8],
     output: FolderNumber,

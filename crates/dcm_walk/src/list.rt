@@ -135,8 +135,8 @@ fn do_line<S: Folders, E, V: Visitor<S, E>>(
     visitor.visit(system, errors, named, what)
 }
 
-/// Goes over the names in a list, one a line. Links are followed. What has the number of the output, and what lies in it,
-/// is told.
+/// Goes over the names in a list, one a line. Links are followed. What has the number of the output, and what lies in
+/// it, is told.
 pub fn walk_list<S: Folders, E, V: Visitor<S, E>>(
     output: FolderNumber,
     input: &mut Watched<S::Input>,

@@ -3,7 +3,8 @@ ghost use Rattle.std.specs.Prelude.{◌≡◌, ◌+◌, ◌<◌, ◌^◌, List, 
 ghost use Rattle.dcm_base.specs.Lines.ReadValue.{number_in};
 ghost use Rattle.dcm_words.specs.Words as spec;
 ghost use Rattle.dcm_words.specs.Plans.{reader, job_of, takes_memory, has_paths, GivesUnlessMemory, edits_between};
-ghost use Rattle.dcm_words.specs.Plans.{capped, limit_after as said_limit, move_after as said_move, key_after as said_key, LimitAs, KeyAs};
+ghost use Rattle.dcm_words.specs.Plans.{capped, limit_after as said_limit, move_after as said_move};
+ghost use Rattle.dcm_words.specs.Plans.{key_after as said_key, LimitAs, KeyAs};
 ghost use Rattle.dcm_words.specs.Plans.{Gives, PathsAre, SaidAs, planned as planned_of};
 
 use crate::job::{Build, Convert, Deidentify, Dump, Job, Modify, Planned, Texts};

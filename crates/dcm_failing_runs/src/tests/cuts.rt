@@ -18,7 +18,8 @@ fn early_end(alloc: Global, read: usize) -> Result<Vec<u8>, AllocError> {
     numbered(alloc, front, read, b": input ends too early\n")
 }
 
-/// Whether a row writes a head. Where its whole input is at fault before that, a cut one may be a file without elements.
+/// Whether a row writes a head. Where its whole input is at fault before that, a cut one may be a file without
+/// elements.
 fn writes_head(row: &Row) -> bool {
     !matches!(row.header, Start::Nothing)
 }
@@ -33,8 +34,8 @@ fn may_put(row: &Row) -> bool {
     row.words.starts_with("dcmodify")
 }
 
-/// Expects what is answered to a cut input: an early end at the cut, no transfer syntax so far, the fault of the whole, or
-/// none; and a beginning of the output.
+/// Expects what is answered to a cut input: an early end at the cut, no transfer syntax so far, the fault of the whole,
+/// or none; and a beginning of the output.
 fn expect_cut(row: &Row, wanted: &[u8], early: &[u8], answer: &Answer) -> Result<(), Fail> {
     let told = answer.told.as_slice();
     let is_answered = if answer.status == 2 {
@@ -132,8 +133,8 @@ fn unknown_sequences_of_cut_files(rt: HostRuntime) -> Result<(), Fail> {
     cut_sets(rt.alloc(), &unknown())
 }
 
-/// Expects what is answered to the first lines of a dump: a file of them, the fault of the whole, no transfer syntax so far,
-/// or an end that is missing.
+/// Expects what is answered to the first lines of a dump: a file of them, the fault of the whole, no transfer syntax so
+/// far, or an end that is missing.
 fn expect_first_lines(row: &Row, wanted: &[u8], answer: &Answer) -> Result<(), Fail> {
     let told = answer.told.as_slice();
     let is_answered = if answer.status == 2 {

@@ -186,7 +186,8 @@ fn tells_fail(alloc: Global, tables: &[&'static [Row]]) -> Result<(), Fail> {
     Ok(())
 }
 
-/// Expects how much of a row's output is written where reading fails: each time so many bytes are read, and so many written.
+/// Expects how much of a row's output is written where reading fails: each time so many bytes are read, and so many
+/// written.
 fn expect_written(alloc: Global, row: &Row, counts: &[(usize, usize)]) -> Result<(), Fail> {
     let case = case_of(alloc, row)?;
     for (reads, size) in counts {

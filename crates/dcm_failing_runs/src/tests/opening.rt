@@ -278,8 +278,8 @@ fn help_of_no_tool(rt: HostRuntime) -> Result<(), Fail> {
     Ok(())
 }
 
-/// Words, kinds of the input and of the output, and the line where they are not used together. With calls on the devices the
-/// first one fails.
+/// Words, kinds of the input and of the output, and the line where they are not used together. With calls on the
+/// devices the first one fails.
 fn clashes() -> [(&'static str, Answer, Answer, &'static [u8]); 8] {
     let unknown = Answer::Opens(FileKind::Unknown);
     [

@@ -127,9 +127,10 @@ fn least_heap_of_path(rt: HostRuntime, steps: usize) -> Result<usize, Fail> {
     least_heap(rt, views(rt, words.as_slice())?.as_slice())
 }
 
-// Two lines take memory in the same order, but the second one grows once more, at its end. Where it needs a greater heap, it is
-// this growth that each heap between the two refuses. So the rows below refuse each growth that there is: the list of edits and a
-// path get room for 4, 8, 16, 32 and 64, at the counts that say `true`, and a value takes its memory at once.
+// Two lines take memory in the same order, but the second one grows once more, at its end. Where it needs a greater
+// heap, it is this growth that each heap between the two refuses. So the rows below refuse each growth that there is:
+// the list of edits and a path get room for 4, 8, 16, 32 and 64, at the counts that say `true`, and a value takes its
+// memory at once.
 
 #[test]
 fn refuses_each_growth_of_the_list(rt: HostRuntime) -> Result<(), Fail> {

@@ -40,7 +40,8 @@ fn plans_edits(rt: HostRuntime) -> Result<(), Fail> {
     Ok(())
 }
 
-/// What the words of a line mean, but for paths and edits: the dictionary, the syntax, and how much of long values is shown.
+/// What the words of a line mean, but for paths and edits: the dictionary, the syntax, and how much of long values is
+/// shown.
 #[derive(Clone, Copy, Debug, PartialEq, Eq)]
 struct Said {
     dictionary: Dictionary,
@@ -200,8 +201,8 @@ fn plans_a_data_set_alone_by_a_dictionary(rt: HostRuntime) -> Result<(), Fail> {
     Ok(())
 }
 
-/// What the words of a line mean for the taking of identity: what more is kept, in the order of the options, whether it is
-/// reported that pixels may show identity, and whether the key is the file `key`.
+/// What the words of a line mean for the taking of identity: what more is kept, in the order of the options, whether it
+/// is reported that pixels may show identity, and whether the key is the file `key`.
 #[derive(Clone, Copy, Debug, PartialEq, Eq)]
 struct Taking {
     kept: [bool; 5],

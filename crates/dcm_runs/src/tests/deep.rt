@@ -35,8 +35,8 @@ fn put_item(all: &mut Vec<u8>, size: usize) -> Result<(), AllocError> {
     Ok(())
 }
 
-/// A file of so many explicit sequences, an unknown one of known length in the last item, and so many implicit ones in its
-/// item, each in an item of the one before it. These bytes are in the last item.
+/// A file of so many explicit sequences, an unknown one of known length in the last item, and so many implicit ones in
+/// its item, each in an item of the one before it. These bytes are in the last item.
 fn around(alloc: Global, before: usize, inside: usize, last: &[u8]) -> Result<Vec<u8>, AllocError> {
     let group = Start::ExplicitLittle.bytes();
     let mut all = repeated(alloc, group, OPENINGS, before, UNKNOWN)?;

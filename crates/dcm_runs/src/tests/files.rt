@@ -31,7 +31,8 @@ fn file<'a>(name: &'a [u8], number: u64, bytes: &'a [u8]) -> MemFile<'a> {
     }
 }
 
-/// What words leave over the file `a`, which has a second name `link`, and a file `other`. Standard input has the bytes of `a`.
+/// What words leave over the file `a`, which has a second name `link`, and a file `other`. Standard input has the bytes
+/// of `a`.
 fn left_by(alloc: Global, words: &[&[u8]], bytes: &[u8]) -> Result<Left, AllocError> {
     let files = [
         file(b"a", 1, bytes),

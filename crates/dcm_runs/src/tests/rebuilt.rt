@@ -134,7 +134,8 @@ fn changed() -> &'static [File] {
     &CHANGED
 }
 
-/// Files that hold elements of the standard that the extract lacks: what the dump by the whole dictionary builds of them.
+/// Files that hold elements of the standard that the extract lacks: what the dump by the whole dictionary builds of
+/// them.
 const FILES_OF_THE_STANDARD: [File; 4] = [
     File {
         name: "a number",

@@ -1,5 +1,6 @@
 // The lines of a dump.
-ghost use Rattle.std.specs.Prelude.{◌≡◌, ◌<◌, ◌≤◌, ◌-◌, ◌*◌, ◌++◌, ◌∷◌, [], length, replicate, drop, decimal, Some, IfSome};
+ghost use Rattle.std.specs.Prelude.{◌≡◌, ◌<◌, ◌≤◌, ◌-◌, ◌*◌, ◌++◌, ◌∷◌, [], length, replicate, drop, decimal, Some};
+ghost use Rattle.std.specs.Prelude.{IfSome};
 ghost use Rattle.dcm_devices.specs.Writing.{Wrote};
 ghost use Rattle.dcm_base.specs.Dump.Dump as dump;
 ghost use Rattle.dcm_base.specs.Dump.ValueText.{padded};

@@ -59,8 +59,9 @@ fn padding(size: u32, pad: u8) -> Option<u8>
     if size % 2 == 0 { None } else { Some(pad) }
 }
 
-/// Writes bytes with each whole unit turned round. Nearly all values that are turned are a number or two. A block has to
-/// be blanked before it is filled, which for a large one takes far longer than to turn these, so they have a small one.
+/// Writes bytes with each whole unit turned round. Nearly all values that are turned are a number or two. A block has
+/// to be blanked before it is filled, which for a large one takes far longer than to turn these, so they have a small
+/// one.
 #[inline(never)]
 fn put_turned<W: DeviceOut>(vr: Vr, bytes: &[u8], out: &mut Watched<W>) -> Result<(), WriteFailed>
     ensures { Wrote W.DeviceOut out.old out.new (turned (unit vr) bytes.now) result }

@@ -319,9 +319,9 @@ impl Encoder {
         }
     }
 
-    /// Writes an element whose value is whole, as `take` does by its head, its bytes and its end. Most elements come so,
-    /// and by one call the form of each is not asked again, and no copier waits in this state for the next token. What
-    /// is left out opens and closes at once. An `Err` says whether the head was out.
+    /// Writes an element whose value is whole, as `take` does by its head, its bytes and its end. Most elements come
+    /// so, and by one call the form of each is not asked again, and no copier waits in this state for the next token.
+    /// What is left out opens and closes at once. An `Err` says whether the head was out.
     #[inline(never)]
     pub fn take_whole_telling<W: DeviceOut>(
         &mut self,

@@ -1,5 +1,5 @@
-// Runs with the whole dictionary of PS3.6, and with the extract beside it: dumps, conversions and edits of elements that the
-// extract lacks, and what is wanted of them.
+// Runs with the whole dictionary of PS3.6, and with the extract beside it: dumps, conversions and edits of elements
+// that the extract lacks, and what is wanted of them.
 use crate::rows::{EMPTY, Row};
 use dcm_test_devices::Start;
 

@@ -13,8 +13,8 @@ use std::io::{ErrorKind, Write};
 /// The room for an output, and for a line.
 const ROOM: usize = 3000;
 
-/// A writer of std that takes one byte a call, and fails at the write after so many good ones, or at a flush. It counts its
-/// calls by a clock that it shares with other writers.
+/// A writer of std that takes one byte a call, and fails at the write after so many good ones, or at a flush. It counts
+/// its calls by a clock that it shares with other writers.
 #[derive(Drop)]
 struct FailWriter<'a> {
     bytes: Vec<u8>,
@@ -133,8 +133,8 @@ impl<'a> DeviceIn for FailMemory<'a> {
     }
 }
 
-/// How many calls go well that read, that write the output and that write a line, how the next write fails, and whether a flush
-/// of the output goes well.
+/// How many calls go well that read, that write the output and that write a line, how the next write fails, and whether
+/// a flush of the output goes well.
 #[derive(Clone, Copy)]
 pub struct Good {
     pub reads: usize,
@@ -192,7 +192,8 @@ pub fn run_over(alloc: Global, job: &Job, input: &[u8], good: Good) -> Left {
     }
 }
 
-/// What is written where reading fails after so many bytes, by a run that is proved to write exactly what is sure of them.
+/// What is written where reading fails after so many bytes, by a run that is proved to write exactly what is sure of
+/// them.
 pub fn sure_of(alloc: Global, job: &Job, input: &[u8], read: usize) -> Result<Vec<u8>, AllocError> {
     let mut input = Watched::new(FailMemory {
         rest: input,

@@ -23,8 +23,9 @@ fn telling_fails(rt: HostRuntime) -> Result<(), Fail> {
     tells_fail(rt.alloc(), &dictionaries())
 }
 
-/// Of an implicit sequence that is written in explicit VR first the meta group is sure, with 172 bytes, then the head of the
-/// sequence, with 12, that of its item and that of the number in it, with 8 each, and then each byte of the number.
+/// Of an implicit sequence that is written in explicit VR first the meta group is sure, with 172 bytes, then the head
+/// of the sequence, with 12, that of its item and that of the number in it, with 8 each, and then each byte of the
+/// number.
 #[test]
 fn what_is_sure_is_written(rt: HostRuntime) -> Result<(), Fail> {
     let [_, conversions, _] = dictionaries();

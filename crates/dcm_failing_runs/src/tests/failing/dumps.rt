@@ -30,7 +30,8 @@ fn telling_fails(rt: HostRuntime) -> Result<(), Fail> {
     tells_fail(rt.alloc(), &dumps())
 }
 
-/// Of a name the header is sure, with 338 bytes. Without `+L` its line comes as a whole, with it the text as far as it was read.
+/// Of a name the header is sure, with 338 bytes. Without `+L` its line comes as a whole, with it the text as far as it
+/// was read.
 #[test]
 fn what_is_sure_is_written(rt: HostRuntime) -> Result<(), Fail> {
     let [texts, ..] = dumps();

@@ -37,8 +37,8 @@ pub struct TextLines {
     ghost same: { ForSome owner (λ _. (decoded_progress text).display.mode ≡ lines.mode) },
 }
 
-/// The most bytes of a text that goes right to its line. A longer one is first looked at, since plain ASCII goes out faster
-/// as before.
+/// The most bytes of a text that goes right to its line. A longer one is first looked at, since plain ASCII goes out
+/// faster as before.
 const SHORT: usize = 64;
 
 /// Whether an element is shown as before, whatever is in force: one that is no text, or of plain ASCII.
@@ -109,8 +109,8 @@ impl TextLines {
         sets: &Sets,
     ) -> Result<(), WriteFailed>
         ensures state { OnOk result (state self.new ≡ spec.text_step sets.now (state self.old) (opening head syntax)) }
-        ensures wrote { Wrote W.DeviceOut out.old out.new (spec.text_writes sets.now (state self.old) (opening head syntax))
-            result }
+        ensures wrote { Wrote W.DeviceOut out.old out.new (spec.text_writes sets.now (state self.old)
+            (opening head syntax)) result }
     {
         if self.opens_text(head, syntax) {
             let owner = Owner::Element(head.tag, head.vr);
@@ -142,7 +142,8 @@ impl TextLines {
 
     fn close<W: DeviceOut>(&mut self, out: &mut Watched<W>, sets: &Sets) -> Result<(), WriteFailed>
         ensures state { OnOk result (state self.new ≡ spec.text_step sets.now (state self.old) closes_leaf) }
-        ensures wrote { Wrote W.DeviceOut out.old out.new (spec.text_writes sets.now (state self.old) closes_leaf) result }
+        ensures wrote { Wrote W.DeviceOut out.old out.new (spec.text_writes sets.now (state self.old) closes_leaf)
+            result }
     {
         let Some(owner) = self.owner.take() else {
             return self.lines.take(out, Token::CloseLeaf);
@@ -176,7 +177,8 @@ impl TextLines {
     ) -> Result<(), WriteFailed>
         ensures state { OnOk result (state self.new ≡ fold (spec.text_step sets.now) (state self.old)
             (atoms_of token.entry)) }
-        ensures wrote { Wrote W.DeviceOut out.old out.new (shows sets.now (state self.old) (atoms_of token.entry)) result }
+        ensures wrote { Wrote W.DeviceOut out.old out.new (shows sets.now (state self.old) (atoms_of token.entry))
+            result }
     {
         match token {
             Token::Open(head, syntax) => self.open(out, head, syntax, sets),
@@ -215,8 +217,8 @@ impl TextLines {
         self.take(out, Token::CloseLeaf, sets)
     }
 
-    /// Writes the line of a text that is whole, of which the line has no more than its start. It is put together and goes
-    /// out at once, but in full mode where it is long.
+    /// Writes the line of a text that is whole, of which the line has no more than its start. It is put together and
+    /// goes out at once, but in full mode where it is long.
     #[inline(always)]
     fn put_characters<W: DeviceOut>(
         &mut self,
@@ -328,8 +330,8 @@ impl TextLines {
         self.take_in_parts(out, head, syntax, value, sets)
     }
 
-    /// Writes what a text makes that is whole. Plain ASCII of at most 64 bytes is appended right to the line, so that it is
-    /// looked at once; only behind it the sets are asked.
+    /// Writes what a text makes that is whole. Plain ASCII of at most 64 bytes is appended right to the line, so that
+    /// it is looked at once; only behind it the sets are asked.
     #[inline(never)]
     fn take_short_text<W: DeviceOut>(
         &mut self,
@@ -358,8 +360,8 @@ impl TextLines {
         self.lines.put_line_rest(out, head, count)
     }
 
-    /// Writes what an element makes whose value is whole, as `take` does by its head, its bytes and its end. Numbers go the
-    /// way of `Lines`.
+    /// Writes what an element makes whose value is whole, as `take` does by its head, its bytes and its end. Numbers go
+    /// the way of `Lines`.
     #[inline(always)]
     pub fn take_whole<W: DeviceOut>(
         &mut self,

@@ -44,8 +44,8 @@ fn append_value<W: DeviceOut>(
     }
 }
 
-/// Appends the display of any whole value in short mode. Its text lives no longer than this call, so that it is not moved
-/// into the state beside the line and out of it, as that of a value that comes in pieces.
+/// Appends the display of any whole value in short mode. Its text lives no longer than this call, so that it is not
+/// moved into the state beside the line and out of it, as that of a value that comes in pieces.
 #[inline(never)]
 fn append_by_text<W: DeviceOut>(
     vr: Vr,
