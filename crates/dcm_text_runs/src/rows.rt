@@ -12,7 +12,7 @@ pub type Row = (
 
 /// One byte a character.
 #[rattlefmt::skip]
-pub const ONE_BYTE: [Row; 16] = [
+pub static ONE_BYTE: [Row; 16] = [
     (b"", TextKind::Values, b"a\xE9\\b~", "a%E9\\b~", "a\\xe9\\b~"),
     (b"", TextKind::Values, b"a\xE9", "a%E9", "a\\xe9"),
     (b"ISO_IR 6", TextKind::Values, b"\x80\xFF%]\x7F", "%80%FF%25%5D%7F", "\\x80\\xff%]\u{7F}"),
@@ -57,7 +57,7 @@ pub const ONE_BYTE: [Row; 16] = [
 
 /// UTF-8.
 #[rattlefmt::skip]
-pub const UTF_8: [Row; 10] = [
+pub static UTF_8: [Row; 10] = [
     (
         b"ISO_IR 192",
         TextKind::Names,
@@ -108,7 +108,7 @@ pub const UTF_8: [Row; 10] = [
 
 /// Code extensions.
 #[rattlefmt::skip]
-pub const EXTENDED: [Row; 18] = [
+pub static EXTENDED: [Row; 18] = [
     (
         b"\\ISO 2022 IR 87",
         TextKind::Names,
@@ -197,7 +197,7 @@ pub const EXTENDED: [Row; 18] = [
 
 /// What brings the start back.
 #[rattlefmt::skip]
-pub const RESETS: [Row; 7] = [
+pub static RESETS: [Row; 7] = [
     (b"\\ISO 2022 IR 87\\ISO 2022 IR 144", TextKind::Values, b"\x1B-L\xB6\\\xB6", "Ж\\%B6", "Ж\\\\xb6"),
     (b"ISO 2022 IR 100\\ISO 2022 IR 144", TextKind::Values, b"\x1B-L\xB6\\\xB6", "Ж\\¶", "Ж\\¶"),
     (
@@ -227,7 +227,7 @@ pub const RESETS: [Row; 7] = [
 
 /// Terms.
 #[rattlefmt::skip]
-pub const TERMS: [Row; 4] = [
+pub static TERMS: [Row; 4] = [
     (b"FOO", TextKind::Values, b"a\xE9\x1B(B", "a%E9%1B(B", "a\\xe9\u{1B}(B"),
     (b"FOO\\ISO 2022 IR 87\\ISO_IR 192", TextKind::Values, b"\xC3\xA9\x1B$B;3", "%C3%A9山", "\\xc3\\xa9山"),
     (b"ISO 2022 IR 192", TextKind::Values, b"\xC3\xA9", "%C3%A9", "\\xc3\\xa9"),
@@ -236,7 +236,7 @@ pub const TERMS: [Row; 4] = [
 
 /// The first and the last characters of tables, and what is beside them.
 #[rattlefmt::skip]
-pub const EDGES: [Row; 15] = [
+pub static EDGES: [Row; 15] = [
     (
         b"\\ISO 2022 IR 87",
         TextKind::OneValue,
@@ -346,7 +346,7 @@ pub const EDGES: [Row; 15] = [
 
 /// GB18030 and ISO-IR 159, and the edges of their tables.
 #[rattlefmt::skip]
-pub const LONGER: [Row; 14] = [
+pub static LONGER: [Row; 14] = [
     (
         b"GB18030",
         TextKind::Names,

@@ -26,7 +26,7 @@ const OTHER: &[u8] = b"\n# dcmdump (4/4): other\n\n\
 # Dicom-Data-Set\n\
 # Used TransferSyntax: LittleEndianExplicit\n";
 
-const FILES: [Row; 7] = [
+static FILES: [Row; 7] = [
     Row {
         name: "two files",
         words: "dcmdump -f -te a b",

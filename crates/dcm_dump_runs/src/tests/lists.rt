@@ -9,7 +9,7 @@ pub fn lists() -> &'static [Row] {
     &LISTS
 }
 
-const LISTS: [Row; 5] = [
+static LISTS: [Row; 5] = [
     Row {
         name: "a list among files",
         words: "dcmdump -f -te @l b @no",

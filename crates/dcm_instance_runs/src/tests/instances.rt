@@ -52,7 +52,7 @@ const SERIES_KEYWORD: &[u8] = b"SeriesInstanceUID";
 const INSTANCE_KEYWORD: &[u8] = b"SOPInstanceUID";
 
 /// All rows.
-pub const ROWS: [Row; 24] = [
+pub static ROWS: [Row; 24] = [
     Row {
         name: "all three",
         start: Start::ExplicitLittle,

@@ -13,7 +13,7 @@ pub struct Pair {
 }
 
 /// All pairs.
-pub const PAIRS: [Pair; 9] = [
+pub static PAIRS: [Pair; 9] = [
     Pair {
         name: "nothing",
         times: 0,

@@ -9,7 +9,7 @@ pub fn lists() -> &'static [Row] {
     &LISTS
 }
 
-const LISTS: [Row; 6] = [
+static LISTS: [Row; 6] = [
     Row {
         name: "a list with empty lines",
         words: TWO_COLUMNS,

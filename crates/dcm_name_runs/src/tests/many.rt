@@ -13,7 +13,7 @@ const COMMENTS: &[u8] = b"\x10\0\0@LT\x01@";
 const COMMENTS_SIZE: usize = 16_385;
 
 /// A name, a number, and a fault.
-const SHORT_FILES: [Entry; 3] = [
+static SHORT_FILES: [Entry; 3] = [
     Entry::Named(b"a"),
     Entry::File(b"b", Start::ExplicitLittle, b"\x10\0 \0LO\x02\07 "),
     Entry::File(b"d", Start::ExplicitLittle, b"\x08\0`\0pn\x02\0"),

@@ -9,7 +9,7 @@ pub fn names() -> &'static [Row] {
     &NAMES
 }
 
-const NAMES: [Row; 5] = [
+static NAMES: [Row; 5] = [
     Row {
         name: "names with what a table has",
         words: TWO_COLUMNS,

@@ -9,7 +9,7 @@ pub fn unopened() -> &'static [Row] {
     &UNOPENED
 }
 
-const UNOPENED: [Row; 6] = [
+static UNOPENED: [Row; 6] = [
     Row {
         name: "files that are not there",
         words: "dcm2csv -k PatientName -k (0010,0020)",

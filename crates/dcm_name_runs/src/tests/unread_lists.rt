@@ -8,7 +8,7 @@ pub fn unread_lists() -> &'static [Row] {
     &UNREAD_LISTS
 }
 
-const UNREAD_LISTS: [Row; 4] = [
+static UNREAD_LISTS: [Row; 4] = [
     Row {
         name: "lists that are not there",
         words: TWO_COLUMNS,

@@ -17,7 +17,7 @@ struct File {
 }
 
 /// Files that are built as they were.
-const KEPT: [File; 13] = [
+static KEPT: [File; 13] = [
     File {
         name: "no elements",
         start: Start::ExplicitLittle,
@@ -103,7 +103,7 @@ fn kept() -> &'static [File] {
 }
 
 /// Files that are built otherwise: with even lengths, and undefined ones.
-const CHANGED: [File; 4] = [
+static CHANGED: [File; 4] = [
     File {
         name: "an odd text",
         start: Start::ExplicitLittle,
@@ -136,7 +136,7 @@ fn changed() -> &'static [File] {
 
 /// Files that hold elements of the standard that the extract lacks: what the dump by the whole dictionary builds of
 /// them.
-const FILES_OF_THE_STANDARD: [File; 4] = [
+static FILES_OF_THE_STANDARD: [File; 4] = [
     File {
         name: "a number",
         start: Start::ExplicitLittle,

@@ -9,7 +9,7 @@ pub fn decoded() -> &'static [Row] {
     &DECODED
 }
 
-const DECODED: [Row; 8] = [
+static DECODED: [Row; 8] = [
     Row {
         name: "no set",
         words: "dcm2csv +by +u8 +nh -k PatientName",

@@ -9,7 +9,7 @@ pub fn ends() -> &'static [Row] {
     &ENDS
 }
 
-const ENDS: [Row; 3] = [
+static ENDS: [Row; 3] = [
     Row {
         name: "read far enough",
         words: TWO_COLUMNS,

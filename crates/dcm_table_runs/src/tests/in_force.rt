@@ -9,7 +9,7 @@ pub fn in_force() -> &'static [Row] {
     &IN_FORCE
 }
 
-const IN_FORCE: [Row; 10] = [
+static IN_FORCE: [Row; 10] = [
     Row {
         name: "an unknown representation",
         words: "dcm2csv +by +u8 +nh -k PatientName",

@@ -9,7 +9,7 @@ pub fn plain() -> &'static [Row] {
     &PLAIN
 }
 
-const PLAIN: [Row; 7] = [
+static PLAIN: [Row; 7] = [
     Row {
         name: "a name",
         words: "dcm2csv -k PatientName -k (0010,0020)",

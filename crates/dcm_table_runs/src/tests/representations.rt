@@ -9,7 +9,7 @@ pub fn representations() -> &'static [Row] {
     &REPRESENTATIONS
 }
 
-const REPRESENTATIONS: [Row; 5] = [
+static REPRESENTATIONS: [Row; 5] = [
     Row {
         name: "an implicit file",
         words: "dcm2csv +nh -k XRayTubeCurrent -k SmallestImagePixelValue -k PixelRepresentation -k LUTData -k (0029,1001)",

@@ -9,7 +9,7 @@ pub fn texts() -> &'static [Row] {
     &TEXTS
 }
 
-const TEXTS: [Row; 5] = [
+static TEXTS: [Row; 5] = [
     Row {
         name: "bytes that are no UTF-8",
         words: "dcm2csv -k PatientName -k (0010,0020)",

@@ -3,7 +3,7 @@ use crate::rows::{EMPTY, Row};
 use dcm_test_devices::Start;
 
 /// Lines that build a file.
-const BUILT: [Row; 9] = [
+static BUILT: [Row; 9] = [
     Row {
         name: "a meta group alone",
         words: "dump2dcm - -",
@@ -78,7 +78,7 @@ const BUILT: [Row; 9] = [
 ];
 
 /// Lines at fault.
-const FAULTS: [Row; 10] = [
+static FAULTS: [Row; 10] = [
     Row {
         name: "no lines",
         words: "dump2dcm - -",

@@ -3,7 +3,7 @@ use crate::rows::{EMPTY, Row};
 use dcm_test_devices::Start;
 
 /// Values whose bytes are turned or evened.
-const VALUES: [Row; 10] = [
+static VALUES: [Row; 10] = [
     Row {
         name: "words to big endian",
         words: "dcmconv +tb - -",
@@ -98,7 +98,7 @@ const VALUES: [Row; 10] = [
 ];
 
 /// Sequences.
-const SEQUENCES: [Row; 5] = [
+static SEQUENCES: [Row; 5] = [
     Row {
         name: "an empty sequence",
         words: "dcmconv - -",
@@ -147,7 +147,7 @@ const SEQUENCES: [Row; 5] = [
 ];
 
 /// Fragments.
-const FRAGMENTS: [Row; 6] = [
+static FRAGMENTS: [Row; 6] = [
     Row {
         name: "an encapsulated syntax to implicit",
         words: "dcmconv +ti - -",
@@ -208,7 +208,7 @@ const FRAGMENTS: [Row; 6] = [
 ];
 
 /// Heads of files and of elements.
-const HEADS: [Row; 10] = [
+static HEADS: [Row; 10] = [
     Row {
         name: "an unknown tag of implicit to explicit",
         words: "dcmconv +te - -",

@@ -4,7 +4,7 @@ use crate::rows::{EMPTY, Row};
 use dcm_test_devices::Start;
 
 /// Dumps.
-const DUMPS: [Row; 11] = [
+static DUMPS: [Row; 11] = [
     Row {
         name: "an element that the extract lacks",
         words: "dcmdump -",
@@ -105,7 +105,7 @@ const DUMPS: [Row; 11] = [
 ];
 
 /// Conversions.
-const CONVERSIONS: [Row; 7] = [
+static CONVERSIONS: [Row; 7] = [
     Row {
         name: "an implicit sequence to explicit",
         words: "dcmconv +te +dict - -",
@@ -173,7 +173,7 @@ const CONVERSIONS: [Row; 7] = [
 ];
 
 /// Edits.
-const EDITS: [Row; 10] = [
+static EDITS: [Row; 10] = [
     Row {
         name: "a value by its keyword",
         words: "dcmodify +dict -m XRayTubeCurrent=90 - -",

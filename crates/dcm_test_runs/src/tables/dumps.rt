@@ -3,7 +3,7 @@ use crate::rows::{EMPTY, Row};
 use dcm_test_devices::Start;
 
 /// Texts.
-const TEXTS: [Row; 8] = [
+static TEXTS: [Row; 8] = [
     Row {
         name: "a name",
         words: "dcmdump -",
@@ -81,7 +81,7 @@ const TEXTS: [Row; 8] = [
 ];
 
 /// Numbers, tags and words.
-const NUMBERS: [Row; 10] = [
+static NUMBERS: [Row; 10] = [
     Row {
         name: "big endian numbers",
         words: "dcmdump -",
@@ -176,7 +176,7 @@ const NUMBERS: [Row; 10] = [
 ];
 
 /// Sequences, items and fragments.
-const SEQUENCES: [Row; 9] = [
+static SEQUENCES: [Row; 9] = [
     Row {
         name: "an empty sequence",
         words: "dcmdump -",
@@ -265,7 +265,7 @@ const SEQUENCES: [Row; 9] = [
 ];
 
 /// Heads of files.
-const HEADS: [Row; 9] = [
+static HEADS: [Row; 9] = [
     Row {
         name: "a file without elements",
         words: "dcmdump -",
@@ -341,7 +341,7 @@ const HEADS: [Row; 9] = [
 ];
 
 /// Data sets alone, and elements that are unknown or refused.
-const ELEMENTS: [Row; 5] = [
+static ELEMENTS: [Row; 5] = [
     Row {
         name: "an unknown tag in implicit",
         words: "dcmdump -",

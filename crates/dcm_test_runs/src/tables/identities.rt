@@ -3,7 +3,7 @@ use crate::rows::{EMPTY, Row};
 use dcm_test_devices::Start;
 
 /// What becomes of elements.
-const FATES: [Row; 16] = [
+static FATES: [Row; 16] = [
     Row {
         name: "an empty file",
         words: "dcmdeid - -",
@@ -152,7 +152,7 @@ const FATES: [Row; 16] = [
 ];
 
 /// Options that keep more.
-const OPTIONS: [Row; 7] = [
+static OPTIONS: [Row; 7] = [
     Row {
         name: "no option",
         words: "dcmdeid - -",
@@ -219,7 +219,7 @@ const OPTIONS: [Row; 7] = [
 ];
 
 /// Keys, meta groups, and new unique identifiers; other syntaxes.
-const IDENTIFIERS: [Row; 11] = [
+static IDENTIFIERS: [Row; 11] = [
     Row {
         name: "key of 16 bytes",
         words: "dcmdeid +k KEY - -",

@@ -3,7 +3,7 @@ use crate::rows::{EMPTY, Row};
 use dcm_test_devices::Start;
 
 /// A file FILE, read with a key of 16 bytes, and what is written to standard output.
-const DAYS: [Row; 14] = [
+static DAYS: [Row; 14] = [
     Row {
         name: "+rm key: moved, PatientID emptied",
         words: "dcmdeid +rm key +k KEY FILE -",

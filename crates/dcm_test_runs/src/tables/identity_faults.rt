@@ -3,7 +3,7 @@ use crate::rows::{EMPTY, Row};
 use dcm_test_devices::Start;
 
 /// What pixels show.
-const PIXELS: [Row; 8] = [
+static PIXELS: [Row; 8] = [
     Row {
         name: "burned in",
         words: "dcmdeid - -",
@@ -89,7 +89,7 @@ const PIXELS: [Row; 8] = [
 ];
 
 /// Files that are refused.
-const FAULTS: [Row; 6] = [
+static FAULTS: [Row; 6] = [
     Row {
         name: "R16: DICOMDIR",
         words: "dcmdeid - -",
@@ -154,7 +154,7 @@ const FAULTS: [Row; 6] = [
 ];
 
 /// Inputs that are cut.
-const CUTS: [Row; 12] = [
+static CUTS: [Row; 12] = [
     Row {
         name: "cut: a kept value",
         words: "dcmdeid - -",

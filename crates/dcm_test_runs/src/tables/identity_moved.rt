@@ -3,7 +3,7 @@ use crate::rows::{EMPTY, Row};
 use dcm_test_devices::Start;
 
 /// The calendar, and lists.
-const DATES: [Row; 8] = [
+static DATES: [Row; 8] = [
     Row {
         name: "+rm: dates in and outside the table, times, names",
         words: "dcmdeid +rm 10 - -",
@@ -79,7 +79,7 @@ const DATES: [Row; 8] = [
 ];
 
 /// Dates with times, padding, lengths, other representations.
-const TIMES: [Row; 8] = [
+static TIMES: [Row; 8] = [
     Row {
         name: "+rm: no dates",
         words: "dcmdeid +rm 1 - -",
@@ -155,7 +155,7 @@ const TIMES: [Row; 8] = [
 ];
 
 /// Syntaxes, faults, what is said, and each element of the table.
-const SYNTAXES: [Row; 11] = [
+static SYNTAXES: [Row; 11] = [
     Row {
         name: "+rm: fragments",
         words: "dcmdeid +rm 1 - -",

@@ -3,7 +3,7 @@ use crate::rows::{EMPTY, Row};
 use dcm_test_devices::Start;
 
 /// Pseudonyms.
-const PSEUDONYMS: [Row; 9] = [
+static PSEUDONYMS: [Row; 9] = [
     Row {
         name: "+pi: at each depth, the name emptied",
         words: "dcmdeid +pi +k KEY - -",
@@ -89,7 +89,7 @@ const PSEUDONYMS: [Row; 9] = [
 ];
 
 /// Words that are refused.
-const WORDS: [Row; 10] = [
+static WORDS: [Row; 10] = [
     Row {
         name: "words: +rm 0",
         words: "dcmdeid +rm 0 - -",
@@ -173,7 +173,7 @@ const WORDS: [Row; 10] = [
 ];
 
 /// Of the words for dates the last counts.
-const LAST: [Row; 2] = [
+static LAST: [Row; 2] = [
     Row {
         name: "the last counts: +rm key +rl",
         words: "dcmdeid +rm key +rl - -",

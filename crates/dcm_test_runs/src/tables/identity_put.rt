@@ -3,7 +3,7 @@ use crate::rows::{EMPTY, Row};
 use dcm_test_devices::Start;
 
 /// What is put in.
-const PUT: [Row; 15] = [
+static PUT: [Row; 15] = [
     Row {
         name: "put: what is there already goes",
         words: "dcmdeid - -",

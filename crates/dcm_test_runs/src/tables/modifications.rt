@@ -3,7 +3,7 @@ use crate::rows::{EMPTY, Row};
 use dcm_test_devices::Start;
 
 /// New elements.
-const NEW: [Row; 9] = [
+static NEW: [Row; 9] = [
     Row {
         name: "an erased value, and a new element in a file that is cut",
         words: "dcmodify -e StudyDate -i AccessionNumber=X - -",
@@ -91,7 +91,7 @@ const NEW: [Row; 9] = [
 ];
 
 /// Missing sequences that are made.
-const MADE: [Row; 6] = [
+static MADE: [Row; 6] = [
     Row {
         name: "a missing sequence that is made",
         words: "dcmodify -i ReferencedImageSequence[0].ReferencedSOPInstanceUID=1.2 - -",
@@ -153,7 +153,7 @@ const MADE: [Row; 6] = [
 ];
 
 /// Values in place of others.
-const VALUES: [Row; 6] = [
+static VALUES: [Row; 6] = [
     Row {
         name: "a value at all depths",
         words: "dcmodify -ma (0008,1155)=1.3 - -",
@@ -212,7 +212,7 @@ const VALUES: [Row; 6] = [
 ];
 
 /// Elements and items that are erased.
-const ERASED: [Row; 8] = [
+static ERASED: [Row; 8] = [
     Row {
         name: "an erased item",
         words: "dcmodify -e ReferencedImageSequence[0] - -",
@@ -289,7 +289,7 @@ const ERASED: [Row; 8] = [
 ];
 
 /// Edits that find no place, and no edits.
-const REMARK: [Row; 6] = [
+static REMARK: [Row; 6] = [
     Row {
         name: "a deflated syntax",
         words: "dcmodify - -",

@@ -3,7 +3,7 @@ use crate::rows::{EMPTY, Row};
 use dcm_test_devices::Start;
 
 /// Dumps of implicit files.
-const DUMPS: [Row; 6] = [
+static DUMPS: [Row; 6] = [
     Row {
         name: "every kind of element between two representations",
         words: "dcmdump +dict -",
@@ -150,7 +150,7 @@ const DUMPS: [Row; 6] = [
 ];
 
 /// PixelRepresentation of a big endian file, and implicit items by it.
-const BIG_SIGNS: [Row; 7] = [
+static BIG_SIGNS: [Row; 7] = [
     Row {
         name: "a number of one",
         words: "dcmconv +dict - -",
@@ -217,7 +217,7 @@ const BIG_SIGNS: [Row; 7] = [
 ];
 
 /// Conversions of signed values, there and back.
-const CONVERSIONS: [Row; 8] = [
+static CONVERSIONS: [Row; 8] = [
     Row {
         name: "signed values from implicit to little endian",
         words: "dcmconv +dict +te - -",

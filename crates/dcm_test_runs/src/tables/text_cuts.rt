@@ -3,7 +3,7 @@ use crate::rows::{EMPTY, Row};
 use dcm_test_devices::Start;
 
 /// The cut of `-L`.
-const CUTS: [Row; 8] = [
+static CUTS: [Row; 8] = [
     Row {
         name: "cut: cut 66",
         words: "dcmdump +u8 -",
@@ -79,7 +79,7 @@ const CUTS: [Row; 8] = [
 ];
 
 /// Values of which bytes are missing.
-const OPEN: [Row; 8] = [
+static OPEN: [Row; 8] = [
     Row {
         name: "open: UTF-8",
         words: "dcmdump +u8 +L -",
@@ -163,7 +163,7 @@ const OPEN: [Row; 8] = [
 ];
 
 /// Two dumps, and other tools.
-const TOOLS: [Row; 3] = [
+static TOOLS: [Row; 3] = [
     Row {
         name: "tools: twice",
         words: "dcmdump +u8 +u8 -",

@@ -3,7 +3,7 @@ use crate::rows::{EMPTY, Row};
 use dcm_test_devices::Start;
 
 /// Designations, and the examples of PS3.5, annexes H, I, J and K.
-const EXTENSIONS: [Row; 10] = [
+static EXTENSIONS: [Row; 10] = [
     Row {
         name: "extensions: H.3.1",
         words: "dcmdump +u8 +L +dict -",
@@ -97,7 +97,7 @@ const EXTENSIONS: [Row; 10] = [
 ];
 
 /// Designations, and the examples of PS3.5, annexes H, I, J and K, continued.
-const EXTENSIONS_MORE: [Row; 9] = [
+static EXTENSIONS_MORE: [Row; 9] = [
     Row {
         name: "extensions: 87 alone",
         words: "dcmdump +u8 +L +dict -",
@@ -182,7 +182,7 @@ const EXTENSIONS_MORE: [Row; 9] = [
 ];
 
 /// What ends a designation.
-const RESETS: [Row; 7] = [
+static RESETS: [Row; 7] = [
     Row {
         name: "resets: backslash LO",
         words: "dcmdump +u8 +L +dict -",

@@ -3,7 +3,7 @@ use crate::rows::{EMPTY, Row};
 use dcm_test_devices::Start;
 
 /// Each set of one byte a character, and UTF-8.
-const SETS: [Row; 8] = [
+static SETS: [Row; 8] = [
     Row {
         name: "sets: none",
         words: "dcmdump +u8 +L +dict -",
@@ -79,7 +79,7 @@ const SETS: [Row; 8] = [
 ];
 
 /// Each set of one byte a character, and UTF-8, continued.
-const SETS_MORE: [Row; 8] = [
+static SETS_MORE: [Row; 8] = [
     Row {
         name: "sets: 127",
         words: "dcmdump +u8 +L +dict -",
@@ -155,7 +155,7 @@ const SETS_MORE: [Row; 8] = [
 ];
 
 /// Bytes that have no character, and characters that are hidden.
-const BYTES: [Row; 10] = [
+static BYTES: [Row; 10] = [
     Row {
         name: "bytes: J",
         words: "dcmdump +u8 +L +dict -",
@@ -249,7 +249,7 @@ const BYTES: [Row; 10] = [
 ];
 
 /// GB18030 and GBK.
-const GB18030: [Row; 6] = [
+static GB18030: [Row; 6] = [
     Row {
         name: "GB18030: J",
         words: "dcmdump +u8 +L +dict -",

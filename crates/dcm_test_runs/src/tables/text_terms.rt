@@ -3,7 +3,7 @@ use crate::rows::{EMPTY, Row};
 use dcm_test_devices::Start;
 
 /// Values of (0008,0005).
-const TERMS: [Row; 6] = [
+static TERMS: [Row; 6] = [
     Row {
         name: "terms: unknown",
         words: "dcmdump +u8 +L +dict -",
@@ -61,7 +61,7 @@ const TERMS: [Row; 6] = [
 ];
 
 /// Values of (0008,0005), continued.
-const TERMS_MORE: [Row; 5] = [
+static TERMS_MORE: [Row; 5] = [
     Row {
         name: "terms: 00",
         words: "dcmdump +u8 -",
@@ -110,7 +110,7 @@ const TERMS_MORE: [Row; 5] = [
 ];
 
 /// Data sets and items.
-const DATA_SETS: [Row; 4] = [
+static DATA_SETS: [Row; 4] = [
     Row {
         name: "data sets: items",
         words: "dcmdump +u8 -",
@@ -148,7 +148,7 @@ const DATA_SETS: [Row; 4] = [
 ];
 
 /// Other texts, and the header.
-const OTHERS: [Row; 3] = [
+static OTHERS: [Row; 3] = [
     Row {
         name: "other texts: others",
         words: "dcmdump +u8 -",

@@ -3,7 +3,7 @@ use crate::rows::{EMPTY, Row};
 use dcm_test_devices::Start;
 
 /// Sequences, and values that are none.
-const SEQUENCES: [Row; 8] = [
+static SEQUENCES: [Row; 8] = [
     Row {
         name: "unknown values, of which two are sequences",
         words: "dcmdump +dict -",
@@ -92,7 +92,7 @@ const SEQUENCES: [Row; 8] = [
 ];
 
 /// Sequences at fault.
-const FAULTS: [Row; 6] = [
+static FAULTS: [Row; 6] = [
     Row {
         name: "bytes that are no items",
         words: "dcmdump +dict -",
@@ -155,7 +155,7 @@ const FAULTS: [Row; 6] = [
 ];
 
 /// Edits that reach into them.
-const EDITS: [Row; 8] = [
+static EDITS: [Row; 8] = [
     Row {
         name: "a value replaced, one erased and one put in",
         words: "dcmodify +dict -m ReferencedImageSequence[0].PatientID=9 -ea PatientName -i ReferencedImageSequence[1].Rows=5 - -",
@@ -232,7 +232,7 @@ const EDITS: [Row; 8] = [
 ];
 
 /// Conversions of unknown values, there and back.
-const CONVERSIONS: [Row; 8] = [
+static CONVERSIONS: [Row; 8] = [
     Row {
         name: "unknown values from little endian to implicit",
         words: "dcmconv +dict +ti - -",

@@ -4,7 +4,7 @@ use super::rows::Entry::{File, Folder, Link, Plain};
 use super::rows::{EMPTY, HEADER, Row};
 
 /// Folders that are one, or lie within one another.
-pub const APART: [Row; 6] = [
+pub static APART: [Row; 6] = [
     Row {
         name: "one folder",
         words: "dcmconv +c +r in ./in",
@@ -75,7 +75,7 @@ pub const APART: [Row; 6] = [
 ];
 
 /// Parts of other runs.
-pub const OTHERS: [Row; 3] = [
+pub static OTHERS: [Row; 3] = [
     Row {
         name: "a part of this number",
         words: "dcmconv +c +r in out",

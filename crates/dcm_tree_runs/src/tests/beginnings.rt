@@ -4,7 +4,7 @@ use super::rows::Entry::{File, Link, Plain};
 use super::rows::{EMPTY, Row};
 
 /// What is read, or is to be written, cannot be used.
-pub const BEGINNINGS: [Row; 10] = [
+pub static BEGINNINGS: [Row; 10] = [
     Row {
         name: "an output that is not empty",
         words: "dcmconv +r in out",

@@ -7,7 +7,7 @@ use super::rows::Entry::{File, FileOfMode, Folder, Plain, Set};
 use super::rows::{EMPTY, HEADER, Row};
 
 /// Two files with one instance.
-pub const COPIES: [Row; 4] = [
+pub static COPIES: [Row; 4] = [
     Row {
         name: "two files of one name",
         words: "dcmdeid +k key +r @list out",
@@ -115,7 +115,7 @@ pub const COPIES: [Row; 4] = [
 ];
 
 /// An output that is there from another run.
-pub const AGAIN: [Row; 6] = [
+pub static AGAIN: [Row; 6] = [
     Row {
         name: "the same output",
         words: "dcmdeid +ru +k key +c +pi +r in out",

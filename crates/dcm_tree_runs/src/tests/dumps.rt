@@ -65,7 +65,7 @@ const DUMP_OF_UTF8: &str = "\
 (0010,0010) PN [Я^ü]                                  #   6, 1 PatientName\n";
 
 /// Headings and dumps.
-pub const DUMPS: [Row; 5] = [
+pub static DUMPS: [Row; 5] = [
     Row {
         name: "several files",
         words: "dcmdump a gone b\n t d -",
@@ -157,7 +157,7 @@ dcmtools: no: input cannot be opened\n",
 ];
 
 /// Dumps by characters.
-pub const CHARACTERS: [Row; 3] = [
+pub static CHARACTERS: [Row; 3] = [
     Row {
         name: "two files",
         words: "dcmdump +u8 a b",

@@ -62,7 +62,7 @@ fn full_disks(rt: HostRuntime) -> Result<(), Fail> {
 }
 
 /// A file whose reading fails, between others.
-const BEFORE: [Entry; 3] = [File(b"in/a", GOOD), Broken(b"in/b"), File(b"in/x/c", OTHER)];
+static BEFORE: [Entry; 3] = [File(b"in/a", GOOD), Broken(b"in/b"), File(b"in/x/c", OTHER)];
 
 /// A row of the manifest; and what is told, and there, where standard output fails within it.
 #[derive(Clone, Copy)]
@@ -72,7 +72,7 @@ struct Stage {
     there: &'static [Entry],
 }
 
-const STAGES: [Stage; 4] = [
+static STAGES: [Stage; 4] = [
     Stage {
         row: HEADER,
         told: b"dcmtools: output failed\n",

@@ -5,7 +5,7 @@ use super::rows::{EMPTY, HEADER, Row};
 use dcm_test_trees::{SOUND, TreeDevices};
 
 /// What is read fails.
-pub const INPUTS: [Row; 8] = [
+pub static INPUTS: [Row; 8] = [
     Row {
         name: "a file that cannot be opened",
         words: "dcmconv +r in out",
@@ -141,7 +141,7 @@ dcmtools: b: R1 at byte 2: input ends too early\n",
 ];
 
 /// What a run begins with fails, and what it makes.
-pub const OUTPUTS: [Row; 6] = [
+pub static OUTPUTS: [Row; 6] = [
     Row {
         name: "a list that cannot be opened",
         words: "dcmconv +r @list out",

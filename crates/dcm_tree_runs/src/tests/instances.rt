@@ -8,7 +8,7 @@ use super::rows::Entry::{File, FileOfMode, Folder, Plain, Set};
 use super::rows::{EMPTY, HEADER, Row};
 
 /// Names by unique identifiers, and files that have none.
-pub const INSTANCES: [Row; 7] = [
+pub static INSTANCES: [Row; 7] = [
     Row {
         name: "names by the key",
         words: "dcmdeid +k key +r in out",

@@ -4,7 +4,7 @@ use super::rows::Entry::{File, Folder, Link, Pipe, Plain};
 use super::rows::{EMPTY, HEADER, Row};
 
 /// What is no file, or no name of one.
-pub const LEFT_OUT: [Row; 4] = [
+pub static LEFT_OUT: [Row; 4] = [
     Row {
         name: "links and a pipe",
         words: "dcmconv +r in out",
@@ -107,7 +107,7 @@ dcmtools: .PART.1: part of another run\n",
 ];
 
 /// Names with marks, lines and letters in them.
-pub const SHOWN_NAMES: [Row; 2] = [
+pub static SHOWN_NAMES: [Row; 2] = [
     Row {
         name: "names in rows",
         words: "dcmconv +r in out",

@@ -6,7 +6,7 @@ use dcm_test_devices::Start;
 use dcm_test_trees::{SOUND, TreeDevices};
 
 /// Names in lists.
-pub const LISTS: [Row; 5] = [
+pub static LISTS: [Row; 5] = [
     Row {
         name: "names that are read, and others",
         words: "dcmconv +r @list out",
@@ -145,7 +145,7 @@ dcmtools: in/a: output is there already\n",
 ];
 
 /// Folders without files.
-pub const NOTHING: [Row; 6] = [
+pub static NOTHING: [Row; 6] = [
     Row {
         name: "an empty folder",
         words: "dcmconv +r in out",

@@ -7,7 +7,7 @@ use super::rows::Entry::{File, Plain, Set};
 use super::rows::{EMPTY, HEADER, Row};
 
 /// Pseudonyms, and days that are moved.
-pub const MOVED: [Row; 4] = [
+pub static MOVED: [Row; 4] = [
     Row {
         name: "a pseudonym",
         words: "dcmdeid +pi +ru +k key +r in out",

@@ -6,7 +6,7 @@ use dcm_test_devices::Start;
 use dcm_test_trees::{SOUND, TreeDevices};
 
 /// Files at any depth, modes, and files at fault.
-pub const OUTPUTS: [Row; 8] = [
+pub static OUTPUTS: [Row; 8] = [
     Row {
         name: "files at any depth",
         words: "dcmconv +r in out",

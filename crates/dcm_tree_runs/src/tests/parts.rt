@@ -4,7 +4,7 @@ use super::rows::Entry::{File, Folder, Link};
 use super::rows::{EMPTY, HEADER, Row};
 
 /// A part of the names.
-pub const PARTS: [Row; 4] = [
+pub static PARTS: [Row; 4] = [
     Row {
         name: "the first of two parts",
         words: "dcmconv +part 1/2 +r in out",

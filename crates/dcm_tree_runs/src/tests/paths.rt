@@ -38,7 +38,7 @@ enum At {
 }
 
 /// What is at paths, links followed.
-const FOLLOWED: [(&str, At); 24] = [
+static FOLLOWED: [(&str, At); 24] = [
     ("a", At::Folder),
     ("a/", At::Folder),
     ("./a/./b/..//file", At::File),
@@ -66,7 +66,7 @@ const FOLLOWED: [(&str, At); 24] = [
 ];
 
 /// And where a link at the end is kept.
-const KEPT: [(&str, At); 6] = [
+static KEPT: [(&str, At); 6] = [
     ("to_a", At::Other),
     ("to_a/", At::Folder),
     ("to_a/file", At::File),
@@ -102,14 +102,14 @@ fn system(alloc: Global) -> Result<MemoryTree, AllocError> {
 #[test]
 fn paths_lead(rt: HostRuntime) -> Result<(), Fail> {
     let mut system = system(rt.alloc())?;
-    for (path, at) in FOLLOWED {
+    for &(path, at) in &FOLLOWED {
         holds(
             path,
             "followed",
             found_at(&mut system, path, Links::Followed) == at,
         )?;
     }
-    for (path, at) in KEPT {
+    for &(path, at) in &KEPT {
         holds(path, "kept", found_at(&mut system, path, Links::Kept) == at)?;
     }
     Ok(())

@@ -7,7 +7,7 @@ use std::alloc::{AllocError, Global};
 use std::test::Fail;
 
 /// Trees of one entry each that are not alike, and what they differ by.
-const UNLIKE: [(&str, Entry, Entry); 8] = [
+static UNLIKE: [(&str, Entry, Entry); 8] = [
     ("bytes", File(b"a/b", GOOD), File(b"a/b", CUT)),
     (
         "a mode",
@@ -31,11 +31,11 @@ fn are_alike(alloc: Global, one: &Entry, other: &Entry) -> Result<bool, AllocErr
 
 #[test]
 fn trees_are_told_apart(rt: HostRuntime) -> Result<(), Fail> {
-    for (what, one, other) in UNLIKE {
-        holds(what, "alike", are_alike(rt.alloc(), &one, &one)?)?;
-        holds(what, "alike", are_alike(rt.alloc(), &other, &other)?)?;
-        holds(what, "unlike", !are_alike(rt.alloc(), &one, &other)?)?;
-        holds(what, "unlike", !are_alike(rt.alloc(), &other, &one)?)?;
+    for (what, one, other) in &UNLIKE {
+        holds(what, "alike", are_alike(rt.alloc(), one, one)?)?;
+        holds(what, "alike", are_alike(rt.alloc(), other, other)?)?;
+        holds(what, "unlike", !are_alike(rt.alloc(), one, other)?)?;
+        holds(what, "unlike", !are_alike(rt.alloc(), other, one)?)?;
     }
     Ok(())
 }
