@@ -370,6 +370,12 @@ impl<'a, S: Sink> Sink for DeidentifySink<'a, S> {
         self.pass_whole(head, syntax, value)
     }
 
+    /// Most items are passed on as they are, at little cost.
+    #[inline(always)]
+    fn wants_items_apart(&self) -> bool {
+        true
+    }
+
     fn accepts(&self, head: &Head) -> Result<(), Bar> {
         match self.place.last {
             Some(last) if !last.is_below(head.tag) => Err(Bar::Order),

@@ -359,6 +359,12 @@ impl<'e, S: Sink, A: Allocator> Sink for EditSink<'e, S, A> {
         pass_whole(&mut self.editor, head, syntax, value, self.inner)
     }
 
+    /// Most items are passed on as they are, at little cost.
+    #[inline(always)]
+    fn wants_items_apart(&self) -> bool {
+        true
+    }
+
     fn accepts(&self, head: &Head) -> Result<(), Bar> {
         match self.editor.level.last {
             Some(last) if !last.is_below(head.tag) => Err(Bar::Order),

@@ -2,6 +2,7 @@
 pub mod Stops
 pub mod Opening
 pub mod Elements
+pub mod Marks
 pub mod Waits
 pub mod Entered
 pub mod HeadBytes

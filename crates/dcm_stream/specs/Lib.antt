@@ -13,4 +13,5 @@ pub mod Sinks
 pub mod Skip
 pub mod Laws
 pub mod WholeLeaf
+pub mod Marks
 pub mod Telling

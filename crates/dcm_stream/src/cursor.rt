@@ -10,7 +10,7 @@ ghost use Rattle.dcm_stream.specs.WholeLeaf as whole;
 ghost use Rattle.dcm_base.specs.Reading.Reads as reads;
 
 use super::close::{close_full, closing_token};
-use super::judge::{Judged, Opening, judge, syntax_inside};
+use super::judge::{Judged, Opening, judge};
 use super::levels::{OpenLevels, level_at, passes};
 use super::machine::INPUT_LIMIT;
 use super::sign::OpenSign;
@@ -137,7 +137,7 @@ impl Cursor {
 
     /// Goes into a container.
     #[inline(always)]
-    fn enter_container<S: Sink>(
+    pub fn enter_container<S: Sink>(
         &mut self,
         opening: Opening,
         inner: Level,
@@ -161,7 +161,12 @@ impl Cursor {
 
     /// Goes out of the innermost container.
     #[inline(always)]
-    fn leave<S: Sink>(&mut self, opening: Opening, token: Token, sink: &mut S) -> Result<(), Halt>
+    pub fn leave<S: Sink>(
+        &mut self,
+        opening: Opening,
+        token: Token,
+        sink: &mut S,
+    ) -> Result<(), Halt>
         requires head { self.old.head.items ≡ [] }
         requires left { self.old.left ≡ 0 }
         requires outside { judging.LeadsTo self.old.position self.old.levels opening (drop 1 self.old.levels) }
@@ -195,19 +200,12 @@ impl Cursor {
             Opening::Fragment(size) => {
                 self.enter_value(opening, size, Token::OpenFragment(size), sink)
             }
-            Opening::Sequence(head, syntax) => {
-                let inner = syntax_inside(syntax, head.vr);
-                let level = level_at(Container::Sequence, inner, head.length, begin);
-                self.enter_container(opening, level, Token::Open(head, syntax), sink)
-            }
+            Opening::Sequence(head, syntax) => self.enter_sequence(head, syntax, sink),
             Opening::FragmentList(head, syntax) => {
                 let level = level_at(Container::FragmentList, syntax, Length::Undefined, begin);
                 self.enter_container(opening, level, Token::Open(head, syntax), sink)
             }
-            Opening::Item(syntax, declared) => {
-                let level = level_at(Container::Item, syntax, declared, begin);
-                self.enter_container(opening, level, Token::OpenItem(declared), sink)
-            }
+            Opening::Item(syntax, declared) => self.enter_item(syntax, declared, sink),
             Opening::End(container) => self.leave(opening, closing_token(container), sink),
         }
     }

@@ -177,7 +177,7 @@ fn judge_item(inner: Level, declared: Length, room: Option<u64>) -> Result<Openi
 
 /// What a head of so many bytes opens or closes, or why it is refused, where this is the innermost container.
 #[inline(always)]
-fn judge_head<S: Sink>(
+pub fn judge_head<S: Sink>(
     inner: Level,
     levels: &OpenLevels,
     position: u64,

@@ -5,7 +5,8 @@
 //! - A `Sink` takes its `Token`s: `Open`, `Bytes`, `CloseLeaf` and so on. Bytes are lent out of the piece for the call
 //!   alone. What a sink is in is its `State`, and `step`, `writes` and `bar` say what each token does to it. By
 //!   `take_whole` it takes an element with its whole value, where it has no shorter way by `take_by_tokens`;
-//!   `take_whole_telling` says too how far it came where its writer failed.
+//!   `take_whole_telling` says too how far it came where its writer failed. `wants_items_apart` says which way the
+//!   machine reads items and sequences for it.
 //! - `Halt` says why the machine goes no further: a fault and its offset, or a sink's writer that failed.
 //! - `Skip` is what is open of an element that a sink leaves out; `take_all` gives a sink several tokens.
 //!
@@ -19,7 +20,9 @@
 
 mod close;
 mod cursor;
+mod cursor_marks;
 mod cursor_runs;
+mod cursor_sequences;
 mod cursor_signs;
 mod judge;
 pub mod laws;

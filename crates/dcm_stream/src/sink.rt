@@ -119,6 +119,15 @@ pub trait Sink {
         Ok(())
     }
 
+    /// Whether items, their ends and sequences are read for it by ways of their own, and not as other heads are. No
+    /// output depends on it, only the time. A sink that does little for an item gains by it, one that writes a line
+    /// for each does not. It is a constant for each sink, so that what reads for one has no code of the ways that it
+    /// does not take.
+    #[inline(always)]
+    fn wants_items_apart(&self) -> bool {
+        false
+    }
+
     /// Whether it takes an element with this head.
     fn accepts(&self, head: &Head) -> Result<(), Bar>
         ensures { Bars (bar (state self.now) head.now) result };

@@ -267,7 +267,7 @@ module _ (bar : HeadBar) (inner : Level) (around : List Level) (position : ℕ) 
       let el : Opened = plain_opens (vr_at inner.syntax bytes) inner.syntax begin bytes (inner ∷ outer) in
       ap (λ (x : Bool). cond {A = Opened} x (cond (is_item tag) it end) el) e ∙ ap (λ (x : Bool). cond {A = Opened} g (cond x it end) el) f
 
-  with_by : (g i : Bool) (head : Head) (begin : ℕ) (levels : List Level) → (head.tag.group == 0xFFFE) ≡ g → is_item head.tag ≡ i
+  pub with_by : (g i : Bool) (head : Head) (begin : ℕ) (levels : List Level) → (head.tag.group == 0xFFFE) ≡ g → is_item head.tag ≡ i
       → opens_with inner head begin levels ≡ cond g (cond i (item_opens inner.container inner.syntax head.length begin levels) (without_value (drop 1 levels) (closes inner.container)))
       (element_opens (form inner.syntax (read_as inner.syntax head.tag head.vr) head.length) inner.syntax head.tag head.vr head.length begin levels)
   with_by g i head begin levels e f =
@@ -276,7 +276,7 @@ module _ (bar : HeadBar) (inner : Level) (around : List Level) (position : ℕ) 
       let el : Opened = element_opens (form inner.syntax (read_as inner.syntax head.tag head.vr) head.length) inner.syntax head.tag head.vr head.length begin levels in
       ap (λ (x : Bool). cond {A = Opened} x (cond (is_item head.tag) it end) el) e ∙ ap (λ (x : Bool). cond {A = Opened} g (cond x it end) el) f
 
-  fault_by : (g i : Bool) (head : Head) (size : ℕ) → (head.tag.group == 0xFFFE) ≡ g → is_item head.tag ≡ i
+  pub fault_by : (g i : Bool) (head : Head) (size : ℕ) → (head.tag.group == 0xFFFE) ≡ g → is_item head.tag ≡ i
       → head_fault bar inner around position head size ≡ cond g (cond i (item_fault inner.container head.length (room position around)) None) (element_fault bar inner.syntax around position head size)
   fault_by g i head size e f =
       let it : Option Fault = item_fault inner.container head.length (room position around) in
