@@ -7,6 +7,7 @@
     scripts/try_edits.py --applies     says in a second which edits cannot be applied
     scripts/try_edits.py --check       says in a second which crates changed since their edits were tried
     scripts/try_edits.py --table       writes the table of the record into docs/engineers/GATE.md
+    scripts/try_edits.py --without     lists the public functions that no edit turns, and fails where the page does not name one of them
 
 The gate's edits of a crate are in `crates/NAME/must-fail`, all others in `scripts/edits/NAME`, in the same form. It works on a copy of
 the repository, and needs `rt`. The record is scripts/edits/tried.tsv: crate, checksum of its sources, definitions and edits (but not of
@@ -31,6 +32,7 @@ import subprocess
 import sys
 import tempfile
 from pathlib import Path
+from typing import NamedTuple
 
 ROOT = Path(__file__).resolve().parent.parent
 OTHERS = ROOT / "scripts/edits"
@@ -53,6 +55,8 @@ MOST = 20
 
 # The head of a function, of a constant, or of another name of a type.
 HEAD = re.compile(r"(?P<indent>\s*)(?:pub(?:\([^)]*\))? )?(?P<kind>(?:const )?fn|const|static|type) (?P<name>\w+)")
+IMPL = re.compile(r"impl(?:<[^>]*>)?\s+(?:(?P<trait>\w+)(?:<[^{]*>)?\s+for\s+)?(?P<type>\w+)")
+CALL = re.compile(r"\b(\w+)(?:::<[^(]*>)?\(")
 GHOST_NAMES = re.compile(r"ghost use (?P<module>[\w.]+)\.\{(?P<names>[^}]*)\};$")
 CYCLE = re.compile(r"#\[cycle\((\w+)\)\]\s*(?:(?://|#\[)[^\n]*\s*)*(?:pub(?:\([^)]*\))? )?fn (\w+)")
 
@@ -416,6 +420,69 @@ def applies() -> int:
     return 1 if failed else 0
 
 
+# ---- public functions that no edit turns
+
+class Function(NamedTuple):
+    """A function of a crate: the type that it belongs to, if it does, the trait that it is of, and its lines up to the next function."""
+
+    file: str
+    owner: str
+    trait: str
+    name: str
+    is_public: bool
+    lines: range
+    text: str
+
+
+def functions_in(file: str, text: str) -> list[Function]:
+    lines = text.splitlines()
+    heads = []
+    place = None
+    for at, line in enumerate(lines, 1):
+        if found := IMPL.match(line):
+            place = found
+        elif (found := HEAD.match(line)) and found["kind"].endswith("fn"):
+            owner, trait = (place["type"], place["trait"] or "") if found["indent"] and place else ("", "")
+            heads.append((at, owner, trait, found["name"], bool(trait) or line.lstrip().startswith("pub ")))
+    ends = [at for at, *_ in heads[1:]] + [len(lines) + 1]
+    return [Function(file, *head, range(at, end), "\n".join(lines[at - 1 : end - 1])) for (at, *head), end in zip(heads, ends)]
+
+
+def functions_without_edit(crate: str) -> list[Function]:
+    """The functions and methods that a crate hands out, where no edit changes a line of them or of a private function that they call.
+    Laws have edits of what they state."""
+    top = ROOT / "crates" / crate
+    paths = [path for path in sorted((top / "src").rglob("*.rt")) if "tests" not in path.parts and path.name not in ("tests.rt", "laws.rt")]
+    functions = [it for path in paths for it in functions_in(str(path.relative_to(top)), path.read_text())]
+    turned: dict[str, set[int]] = {}
+    for edit in edits_of(crate):
+        for file, lines in changes(crate, edit).items():
+            turned.setdefault(file, set()).update(lines)
+
+    def is_turned(function: Function, seen: set[Function]) -> bool:
+        if turned.get(function.file, set()) & set(function.lines):
+            return True
+        called = set(CALL.findall(function.text)) - {function.name}
+        below = [it for it in functions if it.name in called and not it.is_public and it not in seen]
+        return any(is_turned(it, seen | {function, *below}) for it in below)
+
+    handed_out = {name for uses in re.findall(r"pub use ([^;]*);", (top / "src/lib.rt").read_text()) for name in re.findall(r"\w+", uses)}
+    return [it for it in functions if it.is_public and (it.owner or it.name) in handed_out and not is_turned(it, set())]
+
+
+def without() -> int:
+    named = set(re.findall(r"`([\w:]+)`", PAGE.read_text()))
+    names = {word for name in named for word in (name, *name.split("::"))}
+    failed = 0
+    for crate in crates_with_edits():
+        for function in functions_without_edit(crate):
+            is_named = function.name in names and bool({function.owner or function.name, function.trait} & names)
+            failed += not is_named
+            whole = f"{function.owner}::{function.name}" if function.owner else function.name
+            print(f"{'  ' if is_named else '!!'} {crate} {function.file} {whole}")
+    return 1 if failed else 0
+
+
 def wanted_edits(words: list[str], others_alone: bool) -> dict[str, list[Path]]:
     """The edits that words name, by their crates, in the order of the words; all where there is no word."""
     wanted: dict[str, list[Path]] = {}
@@ -429,7 +496,7 @@ def wanted_edits(words: list[str], others_alone: bool) -> dict[str, list[Path]]:
 
 
 def main(words: list[str]) -> int:
-    for word, call in (("--check", check), ("--table", table), ("--applies", applies)):
+    for word, call in (("--check", check), ("--table", table), ("--applies", applies), ("--without", without)):
         if words == [word]:
             return call()
     others_alone = words[:1] == ["--others"]
