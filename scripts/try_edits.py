@@ -14,7 +14,8 @@ the repository, and needs `rt`. The record is scripts/edits/tried.tsv: crate, ch
 comments, nor of how lines are broken), day, edits.
 
 A refusal counts only where a goal is left open: of the function that the edit changes, or of one that calls it or names what it changes,
-be it by the struct that holds it.
+be it by the struct that holds it. It is a goal that the function has without the edit too: where an edit takes away goals that proofs
+name, those in their place say nothing.
 One that comes of a missing name, a type, the shape of a proof or a form that does not compile fails, and so does any line that is not
 understood. It ends with 0 where each edit is refused for a goal, and of --check where no crate changed.
 
@@ -272,8 +273,15 @@ def refusal(crate: str, edit: Path, said: str, is_alone: bool) -> str:
     found = next((it for it in open_ones if is_of_it(it[1]) or speaks(it[1])), None)
     if not found:
         return ""
-    lost = [goal for goal, function, _, line in goals if function == found[1] and re.search(r"Goals` has no ", line)]
-    return f"`{found[0]}` of {found[1]}" + (f"; it has no goal `{lost[0]}` any more" if lost and OPEN_GOAL.match(found[3]) else "")
+    if OPEN_GOAL.match(found[3]) and lost_goals(goals, found[1]):
+        return ""
+    return f"`{found[0]}` of {found[1]}"
+
+
+def lost_goals(goals: list[tuple[str, str, str, str]], function: str) -> list[str]:
+    """The goals of a function that its proofs name and that it has no more: what is left open then stands in their place, and no answer
+    was written for it."""
+    return [goal for goal, of, _, line in goals if of == function and re.search(r"Goals` has no ", line)]
 
 
 # ---- the trying
@@ -371,7 +379,9 @@ def what_was_said(crate: str, said: str) -> str:
     if "\nlogic=proved" in said:
         return "NOT REFUSED: the crate is still proved"
     if goals := goals_in(crate, said):
-        goal, function, why, line = goals[0]
+        goal, function, why, line = next((it for it in goals if lost_goals(goals, it[1])), goals[0])
+        if lost := lost_goals(goals, function):
+            return f"{function} has no goal `{lost[0]}` any more, which its proofs name"
         return f"{why}: {line[:200]}" if why else f"the goal `{goal}` is of {function}"
     lines = [line for line in said.splitlines() if re.search(r"error|: no proof: |no verdict|could not tell", line)]
     return (lines or said.splitlines()[-1:] or ["nothing"])[0][:200]
