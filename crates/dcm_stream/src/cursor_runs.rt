@@ -1,5 +1,6 @@
 // Runs of elements in explicit little endian whose heads are short and whose values are whole (PS3.5 7.1.2).
-ghost use Rattle.std.specs.Prelude.{◌≡◌, ◌+◌, ◌<◌, ◌≤◌, [], None, false, length, IfSome, IfOk};
+ghost use Rattle.std.specs.Prelude.{◌≡◌, ◌+◌, ◌<◌, ◌≤◌, ◌==◌, ◌&&◌, ◌||◌, [], None, false, length, IfSome, IfOk};
+ghost use Rattle.std.specs.List.{slice_index_or};
 ghost use Rattle.dcm_base.specs.declared.syntax.Syntax.TheVariants.{Little as little_in};
 ghost use Rattle.dcm_base.specs.Reading.Place as place;
 ghost use Rattle.dcm_base.specs.Reading.Reads as reads;
@@ -14,11 +15,27 @@ use super::{Halt, Sink};
 use dcm_base::{Container, Dictionary, Syntax};
 use dcm_head::SHORT_HEAD;
 
+/// The bytes of the group of items and of ends, FFFE (PS3.5 7.5).
+const MARK_LOW: u8 = 0xFE;
+
+const MARK_HIGH: u8 = 0xFF;
+
 /// Whether elements may come in a container.
 fn holds_elements(container: Container) -> bool
     ensures { result ≡ whole.holds_elements container }
 {
     matches!(container, Container::DataSet | Container::Item)
+}
+
+/// Whether the bytes begin as an item or an end does, in either order.
+#[inline(always)]
+fn may_be_mark(bytes: &[u8]) -> bool
+    requires { 8 ≤ length bytes.now }
+    ensures { result ≡ ((slice_index_or bytes.now 0 0 == 254 && slice_index_or bytes.now 1 0 == 255)
+        || (slice_index_or bytes.now 0 0 == 255 && slice_index_or bytes.now 1 0 == 254)) }
+{
+    (bytes[0] == MARK_LOW && bytes[1] == MARK_HIGH)
+        || (bytes[0] == MARK_HIGH && bytes[1] == MARK_LOW)
 }
 
 /// The dictionary of the innermost container, where elements in explicit little endian may come in it.
@@ -114,11 +131,11 @@ impl Cursor {
         self.read_leaves(dictionary, run, sink)
     }
 
-    /// Reads the mark or the head of a sequence that the bytes begin with by its own way, where it has one, and
-    /// answers how many bytes it has, or that it has none. Each way enters or leaves by a call of its own: an item
-    /// costs less than by the general way, and what reads heads stays small.
+    /// Reads the mark that the bytes begin with by its own way, for a sink that wants it, and answers how many bytes it
+    /// has, or that there is none. Each mark enters or leaves by a call of its own: an item costs less than by the
+    /// general way, and what reads heads stays small.
     #[inline(always)]
-    fn read_mark_or_sequence<S: Sink>(&mut self, bytes: &[u8], sink: &mut S) -> Result<usize, Halt>
+    fn read_mark_apart<S: Sink>(&mut self, bytes: &[u8], sink: &mut S) -> Result<usize, Halt>
         requires stands { spec.Stands (spec.reading self.old None) }
         requires left { self.old.left ≡ 0 }
         requires head { self.old.head.items ≡ [] }
@@ -127,31 +144,31 @@ impl Cursor {
         ensures some { IfOk result (λ n. n ≤ length bytes.now) }
         ensures fed { sinks.FedPiece S.Sink sink.old sink.new self.old self.new bytes.now result }
     {
-        let n = self.read_mark(bytes, sink)?;
-        if n > 0 {
-            return Ok(n);
-        }
-        self.read_sequence(bytes, sink)
-    }
-
-    /// The same for a sink that wants it, and nothing for any other.
-    #[inline(always)]
-    fn read_apart<S: Sink>(&mut self, bytes: &[u8], sink: &mut S) -> Result<usize, Halt>
-        requires stands { spec.Stands (spec.reading self.old None) }
-        requires left { self.old.left ≡ 0 }
-        requires head { self.old.head.items ≡ [] }
-        requires eight { 8 ≤ length bytes.now }
-        requires within { self.old.position + length bytes.now ≤ reads.INPUT_LIMIT }
-        ensures some { IfOk result (λ n. n ≤ length bytes.now) }
-        ensures fed { sinks.FedPiece S.Sink sink.old sink.new self.old self.new bytes.now result }
-    {
-        if sink.wants_items_apart() {
-            return self.read_mark_or_sequence(bytes, sink);
+        if sink.wants_items_apart() && may_be_mark(bytes) {
+            return self.read_mark(bytes, sink);
         }
         Ok(0)
     }
 
+    /// The same of the head of a sequence.
+    #[inline(always)]
+    fn read_sequence_apart<S: Sink>(&mut self, bytes: &[u8], sink: &mut S) -> Result<usize, Halt>
+        requires stands { spec.Stands (spec.reading self.old None) }
+        requires left { self.old.left ≡ 0 }
+        requires head { self.old.head.items ≡ [] }
+        requires eight { 8 ≤ length bytes.now }
+        requires within { self.old.position + length bytes.now ≤ reads.INPUT_LIMIT }
+        ensures some { IfOk result (λ n. n ≤ length bytes.now) }
+        ensures fed { sinks.FedPiece S.Sink sink.old sink.new self.old self.new bytes.now result }
+    {
+        if !sink.wants_items_apart() {
+            return Ok(0);
+        }
+        self.read_sequence(bytes, sink)
+    }
+
     /// Reads heads and whole values that the bytes begin with, or all of the bytes where not even one head is whole.
+    /// What may be a mark is no element, so no run of elements is looked for there.
     #[inline(always)]
     pub fn read_heads<S: Sink>(&mut self, bytes: &[u8], sink: &mut S) -> Result<usize, Halt>
         requires stands { spec.Stands (spec.reading self.old None) }
@@ -162,11 +179,15 @@ impl Cursor {
         ensures some { IfOk result (λ n. (0 < n) × (n ≤ length bytes.now)) }
         ensures fed { sinks.FedPiece S.Sink sink.old sink.new self.old self.new bytes.now result }
     {
+        let n = self.read_mark_apart(bytes, sink)?;
+        if n > 0 {
+            return Ok(n);
+        }
         let n = self.read_run(bytes, sink)?;
         if n > 0 {
             return Ok(n);
         }
-        let n = self.read_apart(bytes, sink)?;
+        let n = self.read_sequence_apart(bytes, sink)?;
         if n > 0 {
             return Ok(n);
         }
