@@ -6,6 +6,7 @@
 Rows of ranges (curves and overlays, 50xx and 60xx) are left out: the data dictionary has no element of theirs, so they
 are removed as what is unknown. The data file says where each row is from.
 """
+import re
 from pathlib import Path
 
 DATA = Path(__file__).parent.parent / "data/deidentify.tsv"
@@ -28,12 +29,30 @@ MARKS_HEADER = """
 #[rattlefmt::skip]
 pub const MARKS: [u64; {words}] = [
 """
+KEPT_HEADER = """
+/// Numbers of {what} that each option keeps, wherever they are, each at its own place. At
+/// a place that none of them has is any of them.
+#[rattlefmt::skip]
+pub const {name}: [u32; {places}] = [
+"""
 # how the code finds the mark of a number: `mark_of` in crates/dcm_deid/src/fate.rt, by `spread` of dcm_base
 SPREAD = 0x9E37_79B9
 NUMBERS_OF_A_MARK = 0x8_0000
 ALL_NUMBERS = 0x1_0000_0000
 MARKS_OF_A_WORD = 64
 WORDS_OF_A_LINE = 4
+# how the code finds the place of a number that is always kept: `kept_place` there
+KEPT_PLACES = 2_048
+NUMBERS_OF_A_LINE = 8
+DICTIONARY = Path(__file__).parent.parent / "crates/dcm_base/src/dictionary/standard.rt"
+# what is emptied or moved
+OTHER_REPRESENTATIONS = {"DA", "TM", "DT", "PN"}
+SEQUENCE = "SQ"
+# what says what was done
+PUT = {0x0012_0062, 0x0012_0063, 0x0012_0064, 0x0028_0303}
+# the groups of the modules that images and reports share, whose elements come first; of acquisition those of all modalities alone
+COMMON_GROUPS = {0x0008, 0x0010, 0x0018, 0x0020, 0x0028, 0x0040, 0x0054}
+ACQUISITION, FIRST_OF_SOME = 0x0018, 0x2000
 
 
 def rows():
@@ -56,6 +75,31 @@ def marks(numbers):
     return words
 
 
+def standard_elements():
+    """The number and the value representation of each element of the dictionary."""
+    for number, vr in re.findall(r"\((0x[\dA-F_]+), Vr::(\w\w), \d+, \d+\)", DICTIONARY.read_text()):
+        yield int(number, 16), vr
+
+
+def is_rare(number):
+    """Whether few images and reports have an element."""
+    group, element = number >> 16, number & 0xFFFF
+    return group not in COMMON_GROUPS or group == ACQUISITION and element >= FIRST_OF_SOME
+
+
+def always_kept(numbers, are_sequences):
+    """At each place the first number that has it, of the common ones before the others; where there is none, the first of all. The
+    elements of these numbers have another fate."""
+    kept = [
+        number for number, vr in standard_elements()
+        if (vr == SEQUENCE) == are_sequences and vr not in OTHER_REPRESENTATIONS and number not in numbers | PUT and number & 0xFFFF
+    ]
+    places = {}
+    for number in sorted(kept, key=lambda number: (is_rare(number), number)):
+        places.setdefault(number * SPREAD % ALL_NUMBERS // (ALL_NUMBERS // KEPT_PLACES), number)
+    return [places.get(place, kept[0]) for place in range(KEPT_PLACES)]
+
+
 def word(value):
     """A word as the code writes it."""
     return "0x" + "_".join(f"{value >> shift & 0xFFFF:04X}" for shift in (48, 32, 16, 0))
@@ -73,6 +117,13 @@ def main():
     for start in range(0, len(words), WORDS_OF_A_LINE):
         print("    " + ", ".join(map(word, words[start:start + WORDS_OF_A_LINE])) + ",")
     print("];")
+    for name, what, are_sequences in (("KEPT_VALUES", "elements with a value", False), ("KEPT_SEQUENCES", "sequences", True)):
+        kept = always_kept({number for number, _, _ in table}, are_sequences)
+        print(KEPT_HEADER.format(what=what, name=name, places=len(kept)), end="")
+        for start in range(0, len(kept), NUMBERS_OF_A_LINE):
+            line = (f"0x{number >> 16:04X}_{number & 0xFFFF:04X}" for number in kept[start:start + NUMBERS_OF_A_LINE])
+            print("    " + ", ".join(line) + ",")
+        print("];")
 
 
 if __name__ == "__main__":

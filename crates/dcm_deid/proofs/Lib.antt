@@ -1,6 +1,8 @@
 pub mod Rows
 pub mod Marked
 pub mod Known
+pub mod InParts
+pub mod AlwaysKept
 pub mod Trees
 mod FateRows
 pub mod Taking

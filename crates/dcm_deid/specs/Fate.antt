@@ -1,5 +1,5 @@
 -- What becomes of an element (PS3.15 annex E).
-use Rattle.std.specs.Prelude.{ℕ, Bool, true, false, ◌&&◌, ◌||◌, not, ◌==◌, if◌then◌else◌, List, map, find, Option, Some}
+use Rattle.std.specs.Prelude.{◌≡◌, ℕ, Bool, true, false, ◌&&◌, ◌||◌, not, ◌==◌, if◌then◌else◌, List, map, find, Option, Some}
 use Rattle.std.specs.Prelude.{None}
 use Rattle.std.specs.List.{list_any}
 use Rattle.dcm_base.specs.declared.tag.Tag.{Tag}
@@ -116,6 +116,11 @@ fate options depth tag = if is_put_at options depth tag || not (is_known tag) th
 unfoldable pub fate_as : Options → Depth → ReadAs → Tag → Fate
 fate_as options depth AsItems tag = fate options depth tag
 fate_as options depth AsBytes tag = if is_sequence (vr_in Standard tag) then Remove else fate options depth tag
+
+-- an element of this number that was read so is kept whatever is asked for and wherever it is
+abbrev pub IsAlwaysKept : ReadAs → ℕ → Type 0
+IsAlwaysKept read number = (options : Options) (depth : Depth) (tag : Tag) → tag_number tag ≡ number
+    → fate_as options depth read tag ≡ Keep
 
 -- the same of an element that the dictionary has with a value representation: it is removed whatever the table says
 -- where it

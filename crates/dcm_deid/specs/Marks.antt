@@ -2,7 +2,9 @@
 use Rattle.std.specs.Prelude.{ℕ, ◌/◌, ◌%◌, Bool, ◌==◌, List, slice_index}
 use Rattle.std.specs.Int.{bit_at}
 use Rattle.dcm_base.specs.Tables.Spread.{spread}
-use Rattle.dcm_deid.specs.declared.table.TheConstants.{MARKS}
+use Rattle.dcm_deid.specs.declared.fate.ReadAs.{ReadAs}
+use Rattle.dcm_deid.specs.declared.fate.ReadAs.TheVariants.{AsBytes, AsItems}
+use Rattle.dcm_deid.specs.declared.table.TheConstants.{MARKS, KEPT_VALUES, KEPT_SEQUENCES}
 
 -- the words of the table
 unfoldable pub marks : List ℕ
@@ -15,3 +17,8 @@ mark_of number = spread number 13
 -- whether the mark of a number is set
 abbrev pub is_marked : List ℕ → ℕ → Bool
 is_marked words number = bit_at (slice_index words (mark_of number / 64)) (mark_of number % 64) == 1
+
+-- numbers of elements that are always kept, of those that were read so
+unfoldable pub always_kept : ReadAs → List ℕ
+always_kept AsBytes = KEPT_VALUES
+always_kept AsItems = KEPT_SEQUENCES

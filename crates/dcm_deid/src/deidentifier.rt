@@ -102,6 +102,7 @@ impl Deidentifier {
     }
 
     /// What becomes of an element of the innermost data set.
+    #[inline(always)]
     pub fn fate(&self, options: &Options, form: Form, tag: Tag) -> Fate
         ensures { result ≡ spec.fate_at options.now (deidentifying.place self.now) form tag }
     {

@@ -1,11 +1,11 @@
-ghost use Rattle.std.specs.Prelude.{◌≡◌, ◌<◌, map, find, option_map, ◌==◌};
+ghost use Rattle.std.specs.Prelude.{◌≡◌, ◌<◌, map, find, option_map, ◌==◌, true};
 ghost use Rattle.std.specs.List.{list_any};
 ghost use Rattle.std.specs.List.Sorted.{IsStrictlyIncreasing};
 ghost use Rattle.dcm_base.specs.Tables.Tag.{tag_number};
 ghost use Rattle.dcm_deid.specs.Fate as spec;
 ghost use Rattle.dcm_deid.specs.Marks as marking;
 
-use crate::table::{ACTIONS, Action, MARKS};
+use crate::table::{ACTIONS, Action, KEPT_SEQUENCES, KEPT_VALUES, MARKS};
 use dcm_base::{Dictionary, Tag, Vr, known_vr_in, spread};
 
 /// How many marks there are to a word of them.
@@ -17,6 +17,13 @@ const WORDS: usize = 128;
 /// There are two to the power of so many marks. With 8,192 for the 562 numbers of the table one in fifteen of the
 /// others has a mark too, and they are 1 KB, which stays in the nearest cache.
 const MARK_BITS: u32 = 13;
+
+/// There are two to the power of so many places for the numbers of elements that are always kept. With 2,048, which
+/// are 8 KB, four in five of those that images and reports share have their own.
+const KEPT_BITS: u32 = 11;
+
+/// How many of these places there are.
+const KEPT_PLACES: usize = 2048;
 
 /// PatientID.
 pub const PATIENT_ID: Tag = Tag {
@@ -190,6 +197,35 @@ fn is_marked(marks: &[u64; WORDS], number: u32) -> bool
     (marks[mark / MARKS_OF_A_WORD] >> (mark % MARKS_OF_A_WORD)) & 1 == 1
 }
 
+/// Numbers of elements that are always kept where they were read so, nearly all of them at their own places.
+#[tactic(auto, unfolding(crate::specs::Marks::always_kept))]
+#[inline(always)]
+fn always_kept(read: ReadAs) -> &'static [u32; KEPT_PLACES]
+    ensures { result.now ≡ marking.always_kept read }
+{
+    match read {
+        ReadAs::AsBytes => &KEPT_VALUES,
+        ReadAs::AsItems => &KEPT_SEQUENCES,
+    }
+}
+
+/// The place of a number among them.
+#[inline(always)]
+fn kept_place(number: u32) -> usize
+    ensures { result < 2048 }
+{
+    spread(number, KEPT_BITS)
+}
+
+/// Whether a number is that of an element that is kept whatever is asked for, where it was read so. It does not find
+/// all that are.
+#[inline(always)]
+fn is_always_kept(read: ReadAs, number: u32) -> bool
+    ensures { result ≡ true → spec.IsAlwaysKept read number }
+{
+    always_kept(read)[kept_place(number)] == number
+}
+
 /// The row that has the number, where the numbers ascend.
 #[inline(never)]
 fn row_of(actions: &[Action], number: u32) -> Option<&Action>
@@ -300,10 +336,10 @@ fn is_removed(options: &Options, depth: Depth, read: ReadAs, tag: Tag, vr: Vr) -
     tag.element == 0 || is_opaque || is_put
 }
 
-/// What becomes of an element (PS3.15 table E.1-1), by the options that are given, where it is, and how it was read.
-/// What
-/// the dictionary of the standard does not have is removed.
-pub fn fate_of(options: &Options, depth: Depth, read: ReadAs, tag: Tag) -> Fate
+/// What becomes of an element, by the dictionary and the table. What the dictionary of the standard does not have is
+/// removed. It is not inlined: most elements are always kept, and their way stays small.
+#[inline(never)]
+fn looked_up(options: &Options, depth: Depth, read: ReadAs, tag: Tag) -> Fate
     ensures { result ≡ spec.fate_as options.now depth read tag }
 {
     match known_vr_in(Dictionary::Standard, tag) {
@@ -311,4 +347,17 @@ pub fn fate_of(options: &Options, depth: Depth, read: ReadAs, tag: Tag) -> Fate
         Some(vr) => fate_of_known(options, tag, vr),
         None => Fate::Remove,
     }
+}
+
+/// What becomes of an element (PS3.15 table E.1-1), by the options that are given, where it is, and how it was read.
+/// What the dictionary of the standard does not have is removed. Of an element that is always kept, as most are, one
+/// number is looked at, in place of the rows of the dictionary and of the table.
+#[inline(always)]
+pub fn fate_of(options: &Options, depth: Depth, read: ReadAs, tag: Tag) -> Fate
+    ensures { result ≡ spec.fate_as options.now depth read tag }
+{
+    if is_always_kept(read, tag.number()) {
+        return Fate::Keep;
+    }
+    looked_up(options, depth, read, tag)
 }
