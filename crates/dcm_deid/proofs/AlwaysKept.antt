@@ -20,7 +20,7 @@ use Rattle.dcm_deid.specs.declared.fate.Depth.{Depth}
 use Rattle.dcm_deid.specs.declared.fate.Depth.TheVariants.{Outermost, Inside}
 use Rattle.dcm_deid.specs.declared.fate.ReadAs.{ReadAs}
 use Rattle.dcm_deid.specs.declared.fate.ReadAs.TheVariants.{AsBytes, AsItems}
-use Rattle.dcm_deid.specs.Fate.{Action, IsAlwaysKept, actions, are_full, are_modified, fate_as, fate_by_vr, fate_in_table, fate_of_vr, is_opaque, is_put, is_put_at, is_removed, moved_if}
+use Rattle.dcm_deid.specs.Fate.{Action, IsAlwaysKept, actions, are_full, are_modified, fate_as, fate_by_vr, fate_in_table, fate_of_vr, is_opaque, is_put, is_put_at, moved_if}
 use Rattle.dcm_deid.specs.Marks.{always_kept}
 use Rattle.dcm_deid.proofs.Known.{known_fate}
 use Rattle.dcm_deid.proofs.InParts.{part, parts, found_in_part}

@@ -1,4 +1,4 @@
--- The marks of the numbers that the table of fates has.
+-- The marks of the numbers that the table of fates has, and numbers of elements that are always kept.
 use Rattle.std.specs.Prelude.{ℕ, ◌/◌, ◌%◌, Bool, ◌==◌, List, slice_index}
 use Rattle.std.specs.Int.{bit_at}
 use Rattle.dcm_base.specs.Tables.Spread.{spread}
