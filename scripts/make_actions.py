@@ -1,12 +1,14 @@
 #!/usr/bin/env python3
-"""Makes crates/dcm_deid/src/table.rt, what becomes of the elements of PS3.15 table E.1-1, from data/deidentify.tsv.
+"""Makes what becomes of the elements of PS3.15 table E.1-1, and the numbers of those that are always kept, from data/deidentify.tsv.
 
     scripts/make_actions.py > crates/dcm_deid/src/table.rt
+    scripts/make_actions.py --kept-numbers > crates/dcm_deid/src/kept_numbers.rt
 
 Rows of ranges (curves and overlays, 50xx and 60xx) are left out: the data dictionary has no element of theirs, so they
 are removed as what is unknown. The data file says where each row is from.
 """
 import re
+import sys
 from pathlib import Path
 
 DATA = Path(__file__).parent.parent / "data/deidentify.tsv"
@@ -29,7 +31,10 @@ MARKS_HEADER = """
 #[rattlefmt::skip]
 pub const MARKS: [u64; {words}] = [
 """
-KEPT_HEADER = """
+KEPT_HEADER = """//! Numbers of elements that are kept whatever the options are.
+//! `scripts/make_actions.py --kept-numbers` wrote this file from `data/deidentify.tsv`.
+"""
+KEPT_TABLE_HEADER = """
 /// Numbers of {what} that each option keeps, wherever they are, each at its own place. At
 /// a place that none of them has is any of them.
 #[rattlefmt::skip]
@@ -105,8 +110,8 @@ def word(value):
     return "0x" + "_".join(f"{value >> shift & 0xFFFF:04X}" for shift in (48, 32, 16, 0))
 
 
-def main():
-    table = sorted(rows())
+def print_table(table):
+    """The rows and the marks."""
     print(HEADER.format(count=len(table)), end="")
     for number, fate, kept_by in table:
         options = ", ".join(f"Retain::{name}" for name in kept_by)
@@ -117,13 +122,26 @@ def main():
     for start in range(0, len(words), WORDS_OF_A_LINE):
         print("    " + ", ".join(map(word, words[start:start + WORDS_OF_A_LINE])) + ",")
     print("];")
+
+
+def print_kept_numbers(table):
+    """The numbers that are always kept."""
+    print(KEPT_HEADER, end="")
     for name, what, are_sequences in (("KEPT_VALUES", "elements with a value", False), ("KEPT_SEQUENCES", "sequences", True)):
         kept = always_kept({number for number, _, _ in table}, are_sequences)
-        print(KEPT_HEADER.format(what=what, name=name, places=len(kept)), end="")
+        print(KEPT_TABLE_HEADER.format(what=what, name=name, places=len(kept)), end="")
         for start in range(0, len(kept), NUMBERS_OF_A_LINE):
             line = (f"0x{number >> 16:04X}_{number & 0xFFFF:04X}" for number in kept[start:start + NUMBERS_OF_A_LINE])
             print("    " + ", ".join(line) + ",")
         print("];")
+
+
+def main():
+    table = sorted(rows())
+    if sys.argv[1:] == ["--kept-numbers"]:
+        print_kept_numbers(table)
+    else:
+        print_table(table)
 
 
 if __name__ == "__main__":

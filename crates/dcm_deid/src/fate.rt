@@ -5,7 +5,8 @@ ghost use Rattle.dcm_base.specs.Tables.Tag.{tag_number};
 ghost use Rattle.dcm_deid.specs.Fate as spec;
 ghost use Rattle.dcm_deid.specs.Marks as marking;
 
-use crate::table::{ACTIONS, Action, KEPT_SEQUENCES, KEPT_VALUES, MARKS};
+use crate::kept_numbers::{KEPT_SEQUENCES, KEPT_VALUES};
+use crate::table::{ACTIONS, Action, MARKS};
 use dcm_base::{Dictionary, Tag, Vr, known_vr_in, spread};
 
 /// How many marks there are to a word of them.

@@ -6,6 +6,7 @@ mod deidentifier;
 mod dummy;
 mod fate;
 mod held;
+mod kept_numbers;
 mod key;
 pub mod laws;
 mod meta;
