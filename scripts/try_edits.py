@@ -459,8 +459,8 @@ def functions_in(file: str, text: str) -> list[Function]:
 
 
 def functions_without_edit(crate: str) -> list[Function]:
-    """The functions and methods that a crate hands out, where no edit changes a line of them or of a private function that they call.
-    Laws have edits of what they state."""
+    """The public functions and the methods of a crate, those of its private modules too, where no edit changes a line of them or of a
+    private function that they call. Laws have edits of what they state."""
     top = ROOT / "crates" / crate
     paths = [path for path in sorted((top / "src").rglob("*.rt")) if "tests" not in path.parts and path.name not in ("tests.rt", "laws.rt")]
     functions = [it for path in paths for it in functions_in(str(path.relative_to(top)), path.read_text())]
@@ -476,8 +476,7 @@ def functions_without_edit(crate: str) -> list[Function]:
         below = [it for it in functions if it.name in called and not it.is_public and it not in seen]
         return any(is_turned(it, seen | {function, *below}) for it in below)
 
-    handed_out = {name for uses in re.findall(r"pub use ([^;]*);", (top / "src/lib.rt").read_text()) for name in re.findall(r"\w+", uses)}
-    return [it for it in functions if it.is_public and (it.owner or it.name) in handed_out and not is_turned(it, set())]
+    return [it for it in functions if it.is_public and not is_turned(it, set())]
 
 
 def without() -> int:
