@@ -34,6 +34,14 @@ const SHORT: usize = FEW_TEXT / ESCAPED;
 /// Room for a short text in which each byte is escaped.
 const SHORT_TEXT: usize = ESCAPED * SHORT;
 
+/// The fewest bytes of units that become text in hexadecimal sixteen at a time. Those that are left over need a buffer
+/// of their own, which of fewer bytes would be felt.
+const FEWEST_WOVEN: usize = 128;
+
+/// The most bytes that become text in hexadecimal at a time in short mode: three times sixteen have 96 digits, and of
+/// these 66 are shown.
+const WOVEN_SHORT: usize = 48;
+
 /// Room for a block of units in hexadecimal: a byte has two digits and, where it is a unit, a backslash; and some more,
 /// as the last lanes are stored past the end of their text.
 const WOVEN_TEXT: usize = 3 * BLOCK_BYTES + WOVEN_LANES;
@@ -222,7 +230,7 @@ impl Shown {
         }
     }
 
-    /// Shows units in hexadecimal, each after a backslash. Whole blocks of them become text by lanes.
+    /// Shows units in hexadecimal, each after a backslash. All but the last few become text by lanes.
     fn emit_hexadecimal<W: DeviceOut>(
         &mut self,
         vr: Vr,
@@ -235,11 +243,10 @@ impl Shown {
             (separated_units vr syntax units.now) result }
     {
         let size = vr.unit();
-        let block = BLOCK * size;
-        if units.len() < block {
+        if units.len() < FEWEST_WOVEN {
             return self.emit_singly(vr, syntax, units, out);
         }
-        let (blocks, last) = units.split_at(units.len() / block * block);
+        let (blocks, last) = units.split_at(units.len() / WOVEN_LANES * WOVEN_LANES);
         self.emit_blocks(size, !syntax.is_big(), blocks, out)?;
         self.emit_singly(vr, syntax, last, out)
     }
@@ -268,6 +275,19 @@ impl Shown {
         Ok(())
     }
 
+    /// How many bytes become text in hexadecimal before that goes out: in full mode as many as there is room for, so
+    /// that what a call of the writer costs is shared by many.
+    fn woven_at_a_time(&self) -> usize
+        ensures some { 0 < result }
+        ensures whole { 16 * (result / 16) ≡ result }
+        ensures room { result ≤ BLOCK_BYTES }
+    {
+        match self.mode {
+            Mode::Full => BLOCK_BYTES,
+            Mode::Short => WOVEN_SHORT,
+        }
+    }
+
     /// Shows units in hexadecimal, each after a backslash. They become text sixteen bytes at a time.
     fn emit_blocks<W: DeviceOut>(
         &mut self,
@@ -281,10 +301,11 @@ impl Shown {
         ensures { Emits W.DeviceOut out.old out.new (display_of self.old) (display_of self.new)
             (woven size is_turned units.now) result }
     {
+        let most = self.woven_at_a_time();
         let mut text = [0; WOVEN_TEXT];
         let mut rest = units;
         while !rest.is_empty() && !self.is_cut() {
-            let (block, after) = rest.split_at(rest.len().min(BLOCK * size));
+            let (block, after) = rest.split_at(rest.len().min(most));
             weave_blocks(size, is_turned, block, &mut text);
             self.emit(&text[..2 * block.len() + block.len() / size], out)?;
             rest = after;

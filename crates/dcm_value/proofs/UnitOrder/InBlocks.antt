@@ -1,5 +1,6 @@
 -- Units in hexadecimal, of which whole blocks are woven and the others shown one by one.
-use Rattle.std.proofs.Common.{◌≡◌, ◌<◌, ◌≤◌, ℕ, ◌*◌, ◌/◌, Bool, not, List, ◌∷◌, ◌++◌, length, take, drop, refl, sym, ap, ◌∙◌}
+use Rattle.std.proofs.Common.{arith, ◌≡◌, ◌<◌, ◌≤◌, ℕ, ◌*◌, ◌/◌, Bool, not, List, ◌∷◌, ◌++◌, length, take, drop, refl, sym, ap, ◌∙◌}
+use Rattle.std.proofs.Math.Nat.{div-mul-le_self}
 use Rattle.std.specs.Prelude.{flat_map}
 use Rattle.std.proofs.lemmas.Grind.{flat_map-append}
 use Rattle.std.proofs.lemmas.List.{length-take-le, take-append-drop}
@@ -13,9 +14,11 @@ use Rattle.dcm_base.specs.Dump.ValueText.{shape, shown_unit, hex_byte}
 use Rattle.dcm_base.proofs.Conversions.Order.{turned_unit}
 use Rattle.dcm_value.specs.declared.units.Kind.TheVariants.{Hexadecimal, Tags}
 use Rattle.dcm_value.specs.Units.{kind_of, high_text, high, one_text, separated, separated_units}
+use Rattle.dcm_value.specs.Swap.{IsUnit}
 use Rattle.dcm_value.specs.Woven.{woven, unit_digits}
 use Rattle.dcm_value.proofs.UnitOrder.HighestFirst.{IsOne, Kinds, of_tags, of_ones, kinds, shown_some, one_high, map_same, alike, whole_units}
 use Rattle.dcm_value.proofs.UnitOrder.Pieces.{units_append}
+use Rattle.dcm_value.proofs.UnitOrder.Woven.{in_sixteen}
 
 -- tags are no such units
 tags_apart : Tags ≡ Hexadecimal → ⊥
@@ -55,7 +58,7 @@ split_whole k n m t v some whole within =
     ∙ flat_map-append (λ u. 92 ∷ t u) (units k (take m v)) (units k (drop m v))
 
 -- whole units in front, and those behind them
-pub units_in_blocks : (syntax : Syntax) (vr : Vr) (size n m : ℕ) (big : Bool) (v front back : List ℕ) → size ≡ unit vr → big ≡ is_big syntax → kind_of (shape vr) ≡ Hexadecimal → m ≡ n * size → m ≤ length v → front ≡ take m v → back ≡ drop m v
+units_in_blocks : (syntax : Syntax) (vr : Vr) (size n m : ℕ) (big : Bool) (v front back : List ℕ) → size ≡ unit vr → big ≡ is_big syntax → kind_of (shape vr) ≡ Hexadecimal → m ≡ n * size → m ≤ length v → front ≡ take m v → back ≡ drop m v
     → separated_units vr syntax v ≡ woven size (not big) front ++ separated_units vr syntax back
 units_in_blocks syntax vr size n m big v front back same order kind cut within f b =
     let o = is_one vr kind in
@@ -67,3 +70,11 @@ units_in_blocks syntax vr size n m big v front back same order kind cut within f
     ∙ ap (λ xs. xs ++ separated_units vr syntax back) (sym (woven_shown syntax vr front kind))
     ∙ ap (λ k. woven k (not (is_big syntax)) front ++ separated_units vr syntax back) (sym same)
     ∙ ap (λ t. woven size (not t) front ++ separated_units vr syntax back) (sym order)
+
+-- as many whole lanes as there are
+pub units_in_lanes : (syntax : Syntax) (vr : Vr) (size : ℕ) (big : Bool) (v front back : List ℕ) → IsUnit size → size ≡ unit vr → big ≡ is_big syntax → kind_of (shape vr) ≡ Hexadecimal → front ≡ take (length v / 16 * 16) v → back ≡ drop (length v / 16 * 16) v
+    → separated_units vr syntax v ≡ woven size (not big) front ++ separated_units vr syntax back
+units_in_lanes syntax vr size big v front back is same order kind f b =
+    let lanes : ℕ = length v / 16 in
+    let turned_round : lanes * 16 ≡ 16 * lanes = omega arith in
+    units_in_blocks syntax vr size (16 / size * lanes) (lanes * 16) big v front back same order kind (turned_round ∙ in_sixteen size lanes is) (div-mul-le_self (length v) 16) f b

@@ -3,7 +3,7 @@ use Rattle.std.proofs.Common.{◌≡◌, ◌<◌, ◌≤◌, ℕ, zero, suc, ◌
 use Rattle.std.proofs.lemmas.Bool.{and_parts, cases_lt}
 use Rattle.std.specs.Prelude.{flat_map}
 use Rattle.std.proofs.Math.Seq.{take-append-add}
-use Rattle.std.proofs.lemmas.List.{length-take-le, take-append-le, length-map, get_or-map, ext_get_or}
+use Rattle.std.proofs.lemmas.List.{length-take-le, take-append-drop, take-append-le, length-map, get_or-map, ext_get_or}
 use Rattle.std.proofs.lemmas.Nat.{and_le_r, and_mask}
 use Rattle.std.proofs.lemmas.Simd.{Each1-all, Each1-get_or, Each1-weaker, Each1-zip2, Each2-splat, below_from_Fits, length-zip2, zip2_splat, swz_l, SwzOk, SwzOk-from_below, length-swz_l, get_or-swz_l_below, put_chunk_is}
 use lib.Lanes.{zip2, Each1, pick_l, put_chunk, chunk}
@@ -15,7 +15,7 @@ use Rattle.dcm_value.specs.Woven.{woven, unit_digits}
 use Rattle.dcm_base.specs.Tree.Value.{units}
 use Rattle.std.proofs.lemmas.Grind.{flat_map-append}
 use Rattle.std.proofs.Math.Nat.{mul-suc}
-use Rattle.dcm_value.proofs.UnitOrder.Pieces.{units_append, units_split}
+use Rattle.dcm_value.proofs.UnitOrder.Pieces.{units_append}
 use Rattle.dcm_value.proofs.UnitOrder.Blocks.{each_of_sixteen}
 
 abbrev pub AreLanes : List ℕ → Type 0
@@ -207,17 +207,14 @@ woven_next size is_turned block step xs text lanes is stepped within room whole 
     ∙ sym (woven_append size (16 / size * block) is_turned (take (16 * block) xs) (chunk (16 * block) 16 xs) some front)
     ∙ ap (woven size is_turned) (sym next)
 
--- blocks in front of others
-pub woven_split : (size : ℕ) (is_turned : Bool) (m : ℕ) (rest front back : List ℕ) → IsUnit size → m ≡ min (length rest) (128 * size) → front ≡ take m rest → back ≡ drop m rest → woven size is_turned rest ≡ woven size is_turned front ++ woven size is_turned back
-woven_split size is_turned m rest front back is size_is f b =
-    units_split size (unit_some size is) (unit_digits is_turned) 128 m rest front back size_is f b
+-- whole lanes in front of others
+pub woven_split : (size : ℕ) (is_turned : Bool) (m : ℕ) (v front back : List ℕ) → IsUnit size → 16 * (m / 16) ≡ m → m ≤ length v → front ≡ take m v → back ≡ drop m v → woven size is_turned v ≡ woven size is_turned front ++ woven size is_turned back
+woven_split size is_turned m v front back is whole within f b =
+    ap (woven size is_turned) (sym (take-append-drop m v))
+    ∙ woven_append size (16 / size * (m / 16)) is_turned (take m v) (drop m v) (unit_some size is) (length-take-le m v within ∙ sym whole ∙ in_sixteen size (m / 16) is)
+    ∙ ap (λ xs. woven size is_turned xs ++ woven size is_turned (drop m v)) (sym f)
+    ∙ ap (λ xs. woven size is_turned front ++ woven size is_turned xs) (sym b)
 
 -- whole lanes are cut into whole lanes
-pub whole_blocks : (size m long : ℕ) → IsUnit size → 16 * (long / 16) ≡ long → m ≡ min long (128 * size) → (16 * (m / 16) ≡ m) × (16 * ((long - m) / 16) ≡ long - m)
-whole_blocks size m long is whole cut =
-    elim is [
-      | inl one ↦ let e : m ≡ min long 128 = cut ∙ ap (λ k. min long (128 * k)) one in (omega arith, omega arith)
-      | inr (inl two) ↦ let e : m ≡ min long 256 = cut ∙ ap (λ k. min long (128 * k)) two in (omega arith, omega arith)
-      | inr (inr (inl four)) ↦ let e : m ≡ min long 512 = cut ∙ ap (λ k. min long (128 * k)) four in (omega arith, omega arith)
-      | inr (inr (inr eight)) ↦ let e : m ≡ min long 1024 = cut ∙ ap (λ k. min long (128 * k)) eight in (omega arith, omega arith)
-    ]
+pub whole_blocks : (m most long : ℕ) → 16 * (most / 16) ≡ most → 16 * (long / 16) ≡ long → m ≡ min long most → (16 * (m / 16) ≡ m) × (m ≤ long) × (16 * ((long - m) / 16) ≡ long - m)
+whole_blocks m most long all whole cut = (omega arith, omega arith, omega arith)

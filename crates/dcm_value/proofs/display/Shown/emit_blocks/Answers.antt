@@ -25,7 +25,8 @@ returns-in_err-emit g c =
     let block : List ℕ = c.split_at.result.0.now in
     let after : List ℕ = c.split_at.result.1.now in
     let shown : List ℕ = take (2 * length block + length block / size) c.weave_blocks.new.text in
-    let split = woven_split size c.args.is_turned c.min.result c.loop-self.rest.now block after c.requires.size c.min.ensures c.split_at.ensures.front c.split_at.ensures.back in
+    let cut = whole_blocks c.min.result c.woven_at_a_time-most.result (length c.loop-self.rest.now) c.woven_at_a_time-most.ensures.whole c.loop-self.invariant.whole c.min.ensures in
+    let split = woven_split size c.args.is_turned c.min.result c.loop-self.rest.now block after c.requires.size cut.0 cut.1 c.split_at.ensures.front c.split_at.ensures.back in
     let parts = split ∙ ap (λ xs. xs ++ woven size c.args.is_turned after) (sym c.weave_blocks.ensures.text) in
     record { state = search rules; bytes = part_failed _ shown _ _ _ c.loop-self.invariant.part parts c.from_residual.ensures.0 c.in_err-emit.ensures.bytes; failed = search rules }
 
@@ -36,12 +37,12 @@ loop-self-preserved g c =
     let block : List ℕ = c.split_at.result.0.now in
     let after : List ℕ = c.split_at.result.1.now in
     let shown : List ℕ = take (2 * length block + length block / size) c.weave_blocks.new.text in
-    let split = woven_split size c.args.is_turned c.min.result rest block after c.requires.size c.min.ensures c.split_at.ensures.front c.split_at.ensures.back in
+    let cut = whole_blocks c.min.result c.woven_at_a_time-most.result (length rest) c.woven_at_a_time-most.ensures.whole c.loop-self.invariant.whole c.min.ensures in
+    let split = woven_split size c.args.is_turned c.min.result rest block after c.requires.size cut.0 cut.1 c.split_at.ensures.front c.split_at.ensures.back in
     let parts = split ∙ ap (λ xs. xs ++ woven size c.args.is_turned after) (sym c.weave_blocks.ensures.text) in
     let left : length after ≡ length rest - c.min.result = ap length c.split_at.ensures.back ∙ length-drop c.min.result rest in
-    let cut = whole_blocks size c.min.result (length rest) c.requires.size c.loop-self.invariant.whole c.min.ensures in
     record {
       part = part_more _ _ shown _ _ c.loop-self.invariant.part parts c.in_ok-emit.ensures.state c.in_ok-emit.ensures.bytes;
-      whole = ap (λ n. 16 * (n / 16)) left ∙ cut.1 ∙ sym left;
+      whole = ap (λ n. 16 * (n / 16)) left ∙ cut.2 ∙ sym left;
       failed = c.in_ok-emit.ensures.failed ∙ c.loop-self.invariant.failed;
     }
