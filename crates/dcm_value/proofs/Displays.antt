@@ -3,6 +3,7 @@ pub mod Facts
 pub mod PlainTexts
 pub mod Emits
 pub mod Steps
+pub mod StoredTexts
 pub mod TextEnds
 pub mod UnitSteps
 pub mod Openings

@@ -11,7 +11,7 @@ ghost use Rattle.dcm_value.specs.Woven.{woven};
 ghost use Rattle.dcm_value.specs.Display as spec;
 
 use crate::decimals::write_numbers;
-use crate::escapes::{append_text, is_plain_text};
+use crate::escapes::{is_plain_text, write_text};
 use crate::hexadecimal::{WOVEN_LANES, weave_blocks};
 use crate::units::{
     BLOCK, BLOCK_BYTES, BLOCK_TEXT, FEW, FEW_TEXT, Kind, LONGEST, append_units, kind_of, shown_unit,
@@ -154,6 +154,17 @@ impl Shown {
         }
     }
 
+    /// How many bytes of a text are looked at before they go out: in short mode so few that they are cut.
+    fn text_at_a_time(&self) -> usize
+        ensures some { 0 < result }
+        ensures room { result ≤ TEXT }
+    {
+        match self.mode {
+            Mode::Full => TEXT,
+            Mode::Short => SHORT,
+        }
+    }
+
     /// Shows bytes of a text.
     pub fn emit_text<W: DeviceOut>(
         &mut self,
@@ -165,7 +176,7 @@ impl Shown {
     {
         let mut rest = bytes;
         while !rest.is_empty() && !self.is_cut() {
-            let (block, after) = rest.split_at(rest.len().min(TEXT));
+            let (block, after) = rest.split_at(rest.len().min(self.text_at_a_time()));
             self.emit_part(block, out)?;
             rest = after;
         }
@@ -203,9 +214,9 @@ impl Shown {
         ensures { Emits W.DeviceOut out.old out.new (display_of self.old) (display_of self.new)
             (escaped bytes.now) result }
     {
-        let mut text: ArrayVec<u8, N> = ArrayVec::new();
-        append_text(bytes, &mut text);
-        self.emit(text.as_slice(), out)
+        let mut text = [0; N];
+        let end = write_text(bytes, &mut text);
+        self.emit(&text[..end], out)
     }
 
     /// Shows units, each after a backslash. Many of them have ways of their own.

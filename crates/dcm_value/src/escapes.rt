@@ -1,9 +1,9 @@
 // The bytes of a text as a dump shows them.
 ghost use Rattle.std.specs.Prelude.{◌≡◌, ◌<◌, ◌≤◌, ◌+◌, ◌*◌, ◌++◌, ◌/◌, ◌%◌, ◌==◌, ◌&&◌, if◌then◌else◌, [], ◌∷◌};
-ghost use Rattle.std.specs.Prelude.{length, drop, not, nat_lt};
+ghost use Rattle.std.specs.Prelude.{length, take, drop, not, nat_lt};
 ghost use Rattle.std.specs.Prelude.{count_by, position};
 ghost use Rattle.dcm_base.specs.Dump.ValueText as spec;
-ghost use Rattle.dcm_value.specs.Plain.{is_plain_byte, is_ascii_byte, ascii_size};
+ghost use Rattle.dcm_value.specs.Plain.{is_plain_byte, is_ascii_byte, ascii_size, plain_size, lowest_of_sixteen};
 ghost use Rattle.std.specs.List.{list_all, list_any};
 
 use arrayvec::ArrayVec;
@@ -15,6 +15,9 @@ const TEXT_LANES: usize = 8;
 
 /// The bytes of a long text that are looked at together: as many as a mask has bits.
 const WIDE_LANES: usize = 64;
+
+/// The bytes of a text that is not plain that are stored together.
+const STORED_LANES: usize = 16;
 
 /// The last byte of ASCII that is no control: `~`.
 const LAST_ASCII: u8 = 126;
@@ -248,46 +251,102 @@ fn append_escaped<const N: usize>(byte: u8, text: &mut ArrayVec<u8, N>)
     }
 }
 
-/// Some bytes more, byte by byte.
-fn append_singly<const N: usize>(bytes: &[u8], text: &mut ArrayVec<u8, N>)
-    requires { length text.old.items + 3 * length bytes.now ≤ N }
-    ensures items { text.new.items ≡ text.old.items ++ spec.escaped bytes.now }
-    ensures len { length text.new.items ≤ length text.old.items + 3 * length bytes.now }
-{
-    for byte in bytes {
-        append_escaped(*byte, text);
-    }
-}
-
-/// Eight bytes more. Plain ones are copied together.
+/// Writes a byte of a text at this place, as `append_escaped` shows it, and returns where it ends.
 #[inline(always)]
-fn append_eight<const N: usize>(bytes: &[u8], text: &mut ArrayVec<u8, N>)
-    requires eight { length bytes.now ≡ 8 }
-    requires room { length text.old.items + 24 ≤ N }
-    ensures items { text.new.items ≡ text.old.items ++ spec.escaped bytes.now }
-    ensures len { length text.new.items ≤ length text.old.items + 24 }
+fn write_escaped(byte: u8, text: &mut [u8], at: usize) -> usize
+    requires { at + 3 ≤ length text.old }
+    ensures text { take result text.new ≡ take at text.old ++ spec.escape byte }
+    ensures within { result ≤ at + 3 }
+    ensures size { length text.new ≡ length text.old }
 {
-    if has_escapes(u8x8::from_slice(bytes)) {
-        append_singly(bytes, text);
+    if is_plain(byte) {
+        text[at] = byte;
+        return at + 1;
+    }
+    let [high, low] = upper_digits(byte);
+    text[at] = b'%';
+    text[at + 1] = high;
+    text[at + 2] = low;
+    at + 3
+}
+
+/// The same of some bytes, one by one.
+fn write_singly(bytes: &[u8], text: &mut [u8], at: usize) -> usize
+    requires { at + 3 * length bytes.now ≤ length text.old }
+    ensures text { take result text.new ≡ take at text.old ++ spec.escaped bytes.now }
+    ensures within { result ≤ at + 3 * length bytes.now }
+    ensures size { length text.new ≡ length text.old }
+{
+    let mut end = at;
+    for byte in bytes {
+        end = write_escaped(*byte, text, end);
+    }
+    end
+}
+
+/// The place of the lowest bit that is set, of sixteen, or sixteen.
+#[inline(always)]
+fn lowest_set(bits: u64) -> usize
+    ensures { result ≡ lowest_of_sixteen bits }
+{
+    if bits == 0 {
+        STORED_LANES
     } else {
-        let _ = text.try_extend_from_slice(bytes);
+        bits.trailing_zeros() as usize
     }
 }
 
-/// Some bytes more.
-pub fn append_text<const N: usize>(bytes: &[u8], text: &mut ArrayVec<u8, N>)
-    requires { length text.old.items + 3 * length bytes.now ≤ N }
-    ensures { text.new.items ≡ text.old.items ++ spec.escaped bytes.now }
+/// How many of sixteen bytes in front are shown as they are. They are compared together, and one mask tells the first
+/// other one.
+#[inline(always)]
+fn plain_of_sixteen(bytes: u8x16) -> usize
+    ensures value { result ≡ plain_size bytes }
+    ensures most { result ≤ 16 }
 {
-    let blocks = bytes.len() / TEXT_LANES;
-    for block in 0..blocks {
-        append_eight(
-            &bytes[TEXT_LANES * block..TEXT_LANES * block + TEXT_LANES],
-            text,
-        );
+    let controls = bytes.simd_lt(u8x16::splat(32)) | bytes.simd_eq(u8x16::splat(127));
+    let escaped = bytes.simd_eq(u8x16::splat(b'%')) | bytes.simd_eq(u8x16::splat(b']'));
+    let others = controls | escaped;
+    lowest_set(others.to_bitmask())
+}
+
+/// Writes some of at least sixteen bytes of a text at this place: those in front that are shown as they are, and one that
+/// is not. Answers how many they are, and where their text ends. Sixteen bytes are stored by one move, and of these the
+/// text goes on where the first ends that counts, so that no run is copied by a call and no byte is asked by itself.
+#[inline(always)]
+fn write_next(bytes: &[u8], text: &mut [u8], end: usize) -> (usize, usize)
+    requires long { 16 ≤ length bytes.now }
+    requires room { end + 48 ≤ length text.old }
+    ensures some { 0 < result.0 }
+    ensures few { result.0 ≤ 16 }
+    ensures text { take result.1 text.new ≡ take end text.old ++ spec.escaped (take result.0 bytes.now) }
+    ensures within { result.1 ≤ end + 3 * result.0 }
+    ensures size { length text.new ≡ length text.old }
+{
+    let lanes = u8x16::from_slice(bytes);
+    lanes.copy_to_slice(&mut text[end..]);
+    let plain = plain_of_sixteen(lanes);
+    if plain == STORED_LANES {
+        return (plain, end + plain);
     }
-    let (_, last) = bytes.split_at(TEXT_LANES * blocks);
-    append_singly(last, text);
+    (plain + 1, write_escaped(bytes[plain], text, end + plain))
+}
+
+/// Writes bytes of a text at the front of a buffer, as a dump shows them, and returns where they end. What stands behind
+/// them has no meaning.
+pub fn write_text(bytes: &[u8], text: &mut [u8]) -> usize
+    requires { 3 * length bytes.now ≤ length text.old }
+    ensures text { take result text.new ≡ spec.escaped bytes.now }
+    ensures within { result ≤ length text.old }
+    ensures size { length text.new ≡ length text.old }
+{
+    let mut at = 0;
+    let mut end = 0;
+    while at + STORED_LANES <= bytes.len() {
+        let (count, next) = write_next(&bytes[at..], text, end);
+        at += count;
+        end = next;
+    }
+    write_singly(&bytes[at..], text, end)
 }
 
 /// How many backslashes there are in some bytes.

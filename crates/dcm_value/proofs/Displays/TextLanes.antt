@@ -149,17 +149,6 @@ some_escaped {t} {s} e f = go s (sym f ∙ e)
     go true h = cc
     go false h = refl
 
--- eight bytes more behind those that are shown
-pub escaped_more : (block n : ℕ) (v before text after : List ℕ) → n ≡ 8 → text ≡ before ++ escaped (take (8 * block) v) → after ≡ text ++ escaped (take n (drop (8 * block) v)) → after ≡ before ++ escaped (take (8 * (block + 1)) v)
-escaped_more block n v before text after eight so_far more =
-    let goes : 8 * (block + 1) ≡ 8 * block + n = omega arith in
-    let whole : escaped (take (8 * (block + 1)) v) ≡ escaped (take (8 * block) v) ++ escaped (take n (drop (8 * block) v)) =
-    ap (λ k. escaped (take k v)) goes ∙ ap escaped (take-add (8 * block) n v) ∙ flat_map-append escape (take (8 * block) v) (take n (drop (8 * block) v)) in
-    more
-    ∙ ap (λ xs. xs ++ escaped (take n (drop (8 * block) v))) so_far
-    ∙ append_assoc before (escaped (take (8 * block) v)) (escaped (take n (drop (8 * block) v)))
-    ∙ ap (λ xs. before ++ xs) (sym whole)
-
 -- the last ones looked at again
 pub plain_less : (p : ℕ → Bool) (v : List ℕ) (m k : ℕ) → list_all p (take (m + k) v) ≡ true → list_all p (take m v) ≡ true
 plain_less p v m k so_far = first (list_all p (take m v)) (list_all p (chunk m k v)) (sym (ap (list_all p) (take-add m k v) ∙ all_append p (take m v) (chunk m k v)) ∙ so_far)

@@ -182,7 +182,7 @@ step_small size is =
     ]
 
 -- a part of what was stored, behind what stood there
-stored_part : (i k : ℕ) (xs ys : List ℕ) → i + length ys ≤ length xs → k ≤ length ys → take (i + k) (put_chunk i xs ys) ≡ take i xs ++ take k ys
+pub stored_part : (i k : ℕ) (xs ys : List ℕ) → i + length ys ≤ length xs → k ≤ length ys → take (i + k) (put_chunk i xs ys) ≡ take i xs ++ take k ys
 stored_part i k xs ys room part =
     let front : length (take i xs) ≡ i = length-take-le i xs (omega arith) in
     ap (take (i + k)) (put_chunk_is i xs ys room)
