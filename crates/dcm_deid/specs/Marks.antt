@@ -4,7 +4,8 @@ use Rattle.std.specs.Int.{bit_at}
 use Rattle.dcm_base.specs.Tables.Spread.{spread}
 use Rattle.dcm_deid.specs.declared.fate.ReadAs.{ReadAs}
 use Rattle.dcm_deid.specs.declared.fate.ReadAs.TheVariants.{AsBytes, AsItems}
-use Rattle.dcm_deid.specs.declared.table.TheConstants.{MARKS, KEPT_VALUES, KEPT_SEQUENCES}
+use Rattle.dcm_deid.specs.declared.kept_numbers.TheConstants.{KEPT_VALUES, KEPT_SEQUENCES}
+use Rattle.dcm_deid.specs.declared.table.TheConstants.{MARKS}
 
 -- the words of the table
 unfoldable pub marks : List ℕ
