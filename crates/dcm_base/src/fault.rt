@@ -237,9 +237,8 @@ pub struct Stop {
 }
 
 /// Why lines that are built into a file are refused: a fault, the offset at which the line begins, and the number of
-/// the line, from
-/// 1. An input that ends too early is refused at its size, and one that is too long at the limit of an input, with no
-/// line.
+/// the line; lines are counted from one. An input that ends too early is refused at its size, and one that is too long
+/// at the limit of an input, with no line.
 #[derive(Clone, Copy, Debug, PartialEq, Eq)]
 pub struct LineStop {
     pub fault: LineFault,

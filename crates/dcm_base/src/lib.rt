@@ -39,8 +39,8 @@ pub use dcm_devices::{
     flush_out, get_some, put_all, put_array, put_decimal, put_parts,
 };
 pub use dictionary::{
-    Dictionary, ELEMENTS, dict_vr, element, element_in, keyword, keyword_in, known_vr_in, tag_in,
-    tag_of, vr_in,
+    Dictionary, ELEMENTS, ambiguous_tag, dict_vr, element, element_in, keyword, keyword_in,
+    known_vr_in, tag_in, tag_of, vr_in,
 };
 pub use digits::{decimal_digit, decimal_number};
 pub use fault::{EditRefusal, Fault, LineFault, LineStop, Stop, WordFault};

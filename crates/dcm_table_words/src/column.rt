@@ -4,8 +4,7 @@ ghost use Rattle.dcm_table_words.specs.Table as spec;
 ghost use Rattle.dcm_table_words.specs.Keywords as keywords;
 ghost use Rattle.dcm_table_words.specs.Columns.{column_as, ColumnAs};
 
-use crate::between::tag_between;
-use dcm_base::{Dictionary, EditRefusal, Tag, tag_in};
+use dcm_base::{Dictionary, EditRefusal, Tag, ambiguous_tag, tag_in};
 use dcm_value::tag_of_text;
 
 /// The bytes of a number `(gggg,eeee)`.
@@ -33,7 +32,7 @@ fn tag_called(keyword: &[u8]) -> Option<Tag>
 {
     match tag_in(Dictionary::Standard, keyword) {
         Some(tag) => Some(tag),
-        None => tag_between(keyword),
+        None => ambiguous_tag(keyword),
     }
 }
 

@@ -14,7 +14,6 @@
 //!     assert!(rt; matches!(plan.names.after(0), Some((Name::File(_), 3))));
 #![tactic(auto)]
 
-mod between;
 mod column;
 mod plan;
 mod saying;

@@ -157,6 +157,7 @@ fn columns_in<'a>(words: &'a [&'a [u8]]) -> Result<ArrayVec<TableColumn, MOST_CO
             number += 1;
             match column_of(word) {
                 Ok(column) => {
+                    // One that is too many is not kept: their number tells it.
                     let _ = columns.try_push(column);
                 }
                 Err(refusal) => return Err(TableUsage::InColumn(refusal, number)),

@@ -1,8 +1,9 @@
 ghost use Rattle.std.specs.Prelude.{◌≡◌, map, option_map};
 ghost use Rattle.dcm_base.specs.Tables.Dictionary as spec;
+ghost use Rattle.dcm_base.specs.Tables.Tag.{tag_of_number};
 ghost use Rattle.dcm_base.specs.declared.dictionary.Dictionary.TheVariants.{Standard, Signed};
 
-use super::extract::{Row, numbered};
+use super::extract::{Row, called, numbered};
 use crate::tag::Tag;
 use crate::vr::Vr;
 
@@ -104,6 +105,16 @@ pub fn signed_element(tag: Tag) -> Option<(Vr, &'static str)>
 {
     match unsigned_element(tag) {
         Some(row) => Some((signed_vr(row.0), row.1)),
+        None => None,
+    }
+}
+
+/// The tag of such an element, by its keyword.
+pub fn ambiguous_tag(keyword: &[u8]) -> Option<Tag>
+    ensures { result ≡ option_map tag_of_number (spec.called spec.ambiguous keyword.now) }
+{
+    match called(rows(), keyword) {
+        Some(number) => Some(Tag::of_number(number)),
         None => None,
     }
 }

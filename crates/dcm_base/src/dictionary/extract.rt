@@ -153,7 +153,7 @@ pub(super) fn numbered(rows: &[Row], places: &[u16], number: u32) -> Option<(Vr,
 }
 
 /// The number in the first row that has the keyword.
-fn called(mut rows: &[Row], keyword: &[u8]) -> Option<u32>
+pub fn called(mut rows: &[Row], keyword: &[u8]) -> Option<u32>
     ensures { result ≡ spec.called (map (λ r. (r.0, r.1, r.2.now)) rows.entry.now) keyword.now }
 {
     while let [row, rest @ ..] = rows {
@@ -179,10 +179,7 @@ pub fn tag_of(keyword: &[u8]) -> Option<Tag>
     ensures { result ≡ spec.tag_in Extract keyword.now }
 {
     match called(rows(), keyword) {
-        Some(number) => Some(Tag {
-            group: (number / 0x1_0000) as u16,
-            element: (number % 0x1_0000) as u16,
-        }),
+        Some(number) => Some(Tag::of_number(number)),
         None => None,
     }
 }
