@@ -10,6 +10,7 @@ pub mod Utf8
 pub mod OneToOne
 pub mod Displays
 pub mod Sound
+pub mod ShownSizes
 pub mod Runs
 pub mod Directly
 pub mod Ahead

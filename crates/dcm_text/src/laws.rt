@@ -1,5 +1,5 @@
 //! Laws of the definitions. Each function takes nothing and makes no call: its contract is the law.
-ghost use Rattle.std.specs.Prelude.{◌≡◌, ◌++◌, ◌==◌, ◌||◌, ℕ, Bool, Some, true, false, List, map, flat_map, codes};
+ghost use Rattle.std.specs.Prelude.{◌≡◌, ◌++◌, ◌*◌, ◌==◌, ◌||◌, ◌≤◌, ℕ, Bool, Some, true, false, List, length, map, flat_map, codes};
 ghost use Rattle.std.specs.Prelude.{encode_utf8_all, IsUtf8};
 ghost use Rattle.std.specs.List.{concat, list_all};
 ghost use Rattle.std.specs.Str.{all_scalars};
@@ -67,4 +67,9 @@ pub fn shown_is_utf8()
         → IsUtf8 (dumped sets kind text) }
     ensures cell { (sets : Sets) (kind : TextKind) (text : List ℕ) → list_all is_byte text ≡ true
         → IsUtf8 (cell sets kind text) }
+{}
+
+/// A dump shows at most three bytes for each byte of a text.
+pub fn shown_is_not_long()
+    ensures { (sets : Sets) (kind : TextKind) (text : List ℕ) → length (dumped sets kind text) ≤ 3 * length text }
 {}

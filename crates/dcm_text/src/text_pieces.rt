@@ -50,7 +50,8 @@ impl<'a> TextPieces<'a> {
     /// Whether the text goes on as it began.
     #[inline(always)]
     pub fn is_at_start(&self) -> bool
-        ensures { result ≡ true → self.now.halves ≡ first.start_of self.now.sets }
+        ensures start { result ≡ true → self.now.halves ≡ first.start_of self.now.sets }
+        ensures other { self.now.halves ≡ first.start_of self.now.sets → result ≡ true }
     {
         self.halves == start_of(&self.sets)
     }
