@@ -6,10 +6,9 @@ use Rattle.dcm_base.specs.declared.mode.Mode.{Mode}
 use Rattle.dcm_base.specs.Dump.ValueText.{shape, unpadded, text_of, count}
 use Rattle.dcm_base.specs.Lines.ReadValue.{takes_bytes}
 use Rattle.dcm_text.specs.declared.sets.Sets.{Sets}
-use Rattle.dcm_text.specs.Laws.{is_byte}
+use Rattle.dcm_text.specs.Laws.{is_byte, is_plain}
 use Rattle.dcm_value.specs.Display.{at_once}
-use Rattle.dcm_value.specs.Plain.{is_ascii_byte}
-use Rattle.dcm_value.specs.DecodedProgress.{DecodedProgress, started, opened, step, feeds, finishes, multiplicity}
+use Rattle.dcm_value.specs.DecodedProgress.{DecodedProgress, started, opened, step, feeds, finishes, multiplicity, sets_for}
 use Rattle.dcm_value.specs.DecodedDisplay.{decoded_text_of, decoded_count, decoded_so_far}
 
 -- after these bytes, and what is written of them
@@ -40,18 +39,19 @@ abbrev pub DecodedSoFar : Type 0
 DecodedSoFar = (vr : Vr) (sets : Sets) (size : ℕ) (mode : Mode) (v : List ℕ) → length v < size
     → decoded_written vr sets size mode v ≡ at_once mode (decoded_so_far vr sets size v)
 
--- a text of 20 to 7E without `%` and `]` is shown and counted as its bytes, whatever is in force
+-- a text of bytes below 80 that designates nothing is shown and counted as without Specific Character Set, whatever is in
+-- force: what designates is an ESC, and that where code extensions are in use
 abbrev pub AsBefore : (mode : Mode) (vr : Vr) (sets : Sets) (v : List ℕ) → Type 0
 AsBefore mode vr sets v = (decoded_text_of mode vr sets v ≡ text_of mode vr v) × (decoded_count vr sets v ≡ count vr v)
 
 abbrev pub AsciiAsBefore : Type 0
 AsciiAsBefore = (mode : Mode) (vr : Vr) (sets : Sets) (v : List ℕ) → takes_bytes (shape vr) ≡ true
-    → list_all is_ascii_byte v ≡ true → AsBefore mode vr sets v
+    → list_all (is_plain (sets_for vr sets)) v ≡ true → AsBefore mode vr sets v
 
 -- the pad byte may be another one
 abbrev pub DecodedAsBefore : Type 0
 DecodedAsBefore = (mode : Mode) (vr : Vr) (sets : Sets) (v : List ℕ) → takes_bytes (shape vr) ≡ true
-    → list_all is_ascii_byte (unpadded vr v) ≡ true → AsBefore mode vr sets v
+    → list_all (is_plain (sets_for vr sets)) (unpadded vr v) ≡ true → AsBefore mode vr sets v
 
 -- what is shown of bytes is UTF-8, whole, cut or while bytes are missing
 abbrev pub DecodedIsUtf8 : Type 0

@@ -11,6 +11,7 @@ ghost use Rattle.dcm_value.specs.Emits.{Emits};
 use crate::display::Shown;
 use crate::next_shown::next_shown;
 use crate::units::append;
+use crate::widths::CUT;
 use arrayvec::ArrayVec;
 use dcm_base::{DeviceOut, Watched, WriteFailed, uid_name};
 use dcm_text::{Decoder, Meaning, Sets, TextKind};
@@ -51,14 +52,14 @@ pub fn cut_size(display: &[u8]) -> usize
     ensures value { result ≡ spec.cut_size display.now }
     ensures most { result ≤ 63 }
 {
-    if !goes_on_at(display, 63) {
-        63
-    } else if !goes_on_at(display, 62) {
-        62
-    } else if !goes_on_at(display, 61) {
-        61
+    if !goes_on_at(display, CUT) {
+        CUT
+    } else if !goes_on_at(display, CUT - 1) {
+        CUT - 1
+    } else if !goes_on_at(display, CUT - 2) {
+        CUT - 2
     } else {
-        60
+        CUT - 3
     }
 }
 

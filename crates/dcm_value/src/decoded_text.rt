@@ -8,10 +8,12 @@ ghost use Rattle.dcm_text.specs.Runs.{state_of};
 ghost use Rattle.dcm_value.specs.DecodedProgress.{is_named, sets_for, kind_of as spec_kind, is_concerned as concerns};
 ghost use Rattle.dcm_value.specs.Plain.{is_ascii_byte};
 
+use crate::counting::backslashes;
 use crate::decoded::default_sets;
 use crate::display::Shown;
-use crate::escapes::{backslashes, is_plain_ascii};
+use crate::escapes::is_plain_ascii;
 use crate::way::{is_single, unpadded, without_pad};
+use crate::whole::NO_VALUE;
 use arrayvec::ArrayVec;
 use dcm_base::{DeviceOut, Mode, Vr, Watched, WriteFailed};
 use dcm_text::{Decoder, Sets, TextKind};
@@ -224,7 +226,7 @@ impl DecodedText {
         ensures wrote { Wrote W.DeviceOut out.old out.new (spec.closing_writes (decoded_progress self.old)) result }
     {
         if self.size == 0 {
-            return self.shown.emit(b"(no value available)", out);
+            return self.shown.emit(NO_VALUE, out);
         }
         if self.is_named() {
             let uid = unpadded(self.vr, self.name.as_slice());

@@ -16,6 +16,7 @@ use crate::hexadecimal::{WOVEN_LANES, weave_blocks};
 use crate::units::{
     BLOCK, BLOCK_BYTES, BLOCK_TEXT, FEW, FEW_TEXT, Kind, LONGEST, append_units, kind_of, shown_unit,
 };
+use crate::widths::{CUT, DISPLAY_WIDTH, UNCUT};
 use arrayvec::ArrayVec;
 use dcm_base::{DeviceOut, Mode, Syntax, Vr, Watched, WriteFailed, put_all, uid_name};
 
@@ -46,18 +47,21 @@ const WOVEN_SHORT: usize = 48;
 /// as the last lanes are stored past the end of their text.
 const WOVEN_TEXT: usize = 3 * BLOCK_BYTES + WOVEN_LANES;
 
+/// The most bytes that are counted: one more than are shown uncut stands for all that are more.
+const COUNTED: usize = UNCUT + 1;
+
 /// What was shown of a value.
 #[derive(Drop)]
 pub struct Shown {
     mode: Mode,
     count: usize,
-    front: ArrayVec<u8, 66>,
+    front: ArrayVec<u8, UNCUT>,
     ghost capped: { count ≤ 67 },
     ghost filled: { length front.items ≡ spec.front_size mode count },
 }
 
 /// As many of the bytes as there is room for.
-fn fill(front: &mut ArrayVec<u8, 66>, bytes: &[u8])
+fn fill(front: &mut ArrayVec<u8, UNCUT>, bytes: &[u8])
     ensures { front.new.items ≡ take 66 (front.old.items ++ bytes.now) }
 {
     // To copy one byte, a bracket, would be a call.
@@ -76,8 +80,8 @@ pub fn append_spaces<const N: usize>(shown: usize, line: &mut ArrayVec<u8, N>)
     ensures items { line.new.items ≡ line.old.items ++ replicate (40 - shown) 32 }
     ensures len { length line.new.items ≡ length line.old.items + (40 - shown) }
 {
-    let spaces = [b' '; 40];
-    let (_, rest) = spaces.split_at(shown.min(40));
+    let spaces = [b' '; DISPLAY_WIDTH];
+    let (_, rest) = spaces.split_at(shown.min(DISPLAY_WIDTH));
     let _ = line.try_extend_from_slice(rest);
 }
 
@@ -106,7 +110,7 @@ impl Shown {
     pub fn is_cut(&self) -> bool
         ensures { result ≡ spec.is_cut (display_of self.now) }
     {
-        self.mode == Mode::Short && self.count > 66
+        self.mode == Mode::Short && self.count > UNCUT
     }
 
     /// In Short the first bytes that were shown, 66 at most.
@@ -130,7 +134,7 @@ impl Shown {
             Mode::Full => put_all(out, bytes)?,
             Mode::Short => fill(&mut self.front, bytes),
         }
-        self.count = self.count.saturating_add(bytes.len()).min(67);
+        self.count = self.count.saturating_add(bytes.len()).min(COUNTED);
         Ok(())
     }
 
@@ -142,8 +146,8 @@ impl Shown {
     {
         match self.mode {
             Mode::Full => append_spaces(self.count, line),
-            Mode::Short if self.count > 66 => {
-                let cut = self.front.len().min(63);
+            Mode::Short if self.count > UNCUT => {
+                let cut = self.front.len().min(CUT);
                 let _ = line.try_extend_from_slice(&self.front.as_slice()[..cut]);
                 let _ = line.try_extend_from_slice(b"...");
             }

@@ -1,7 +1,6 @@
 // The bytes of a text as a dump shows them.
 ghost use Rattle.std.specs.Prelude.{◌≡◌, ◌<◌, ◌≤◌, ◌+◌, ◌*◌, ◌++◌, ◌/◌, ◌%◌, ◌==◌, ◌&&◌, if◌then◌else◌, [], ◌∷◌};
-ghost use Rattle.std.specs.Prelude.{length, take, drop, not, nat_lt};
-ghost use Rattle.std.specs.Prelude.{count_by, position};
+ghost use Rattle.std.specs.Prelude.{length, take, not, nat_lt, position};
 ghost use Rattle.dcm_base.specs.Dump.ValueText as spec;
 ghost use Rattle.dcm_value.specs.Plain.{is_plain_byte, is_ascii_byte, ascii_size, plain_size, lowest_of_sixteen};
 ghost use Rattle.std.specs.List.{list_all, list_any};
@@ -11,10 +10,10 @@ use dcm_text::ascii_of_eight;
 use std::simd::prelude::*;
 
 /// The bytes of a short text that are looked at together, as most texts are.
-const TEXT_LANES: usize = 8;
+pub const TEXT_LANES: usize = 8;
 
 /// The bytes of a long text that are looked at together: as many as a mask has bits.
-const WIDE_LANES: usize = 64;
+pub const WIDE_LANES: usize = 64;
 
 /// The bytes of a text that is not plain that are stored together.
 const STORED_LANES: usize = 16;
@@ -347,75 +346,4 @@ pub fn write_text(bytes: &[u8], text: &mut [u8]) -> usize
         end = next;
     }
     write_singly(&bytes[at..], text, end)
-}
-
-/// How many backslashes there are in some bytes.
-#[inline(always)]
-fn backslashes_in<const LANES: usize>(bytes: Simd<u8, LANES>) -> u32
-    requires { LANES ≤ 64 }
-    ensures count { result ≡ count_by (λ b. b == 92) bytes.entry }
-    ensures bound { result ≤ LANES }
-{
-    bytes.simd_eq(Simd::splat(b'\\')).to_bitmask().count_ones()
-}
-
-/// How many backslashes there are, byte by byte.
-fn backslashes_singly(bytes: &[u8]) -> usize
-    ensures count { result ≡ count_by (λ b. b == 92) bytes.now }
-    ensures bound { result ≤ length bytes.now }
-{
-    bytes.iter().filter(|byte| **byte == b'\\').count()
-}
-
-/// How many backslashes there are in eight bytes behind the first ones.
-#[inline(always)]
-fn backslashes_behind(skipped: usize, bytes: u8x8) -> u32
-    requires { skipped < TEXT_LANES }
-    ensures count { result ≡ count_by (λ b. b == 92) (drop skipped bytes) }
-    ensures bound { result ≤ 8 }
-{
-    (bytes.simd_eq(u8x8::splat(b'\\')).to_bitmask() >> skipped).count_ones()
-}
-
-/// How many backslashes there are. Of a long text 64 bytes are looked at together.
-pub fn backslashes(bytes: &[u8]) -> usize
-    ensures count { result ≡ count_by (λ b. b == 92) bytes.now }
-    ensures bound { result ≤ length bytes.now }
-{
-    if bytes.len() < WIDE_LANES {
-        return backslashes_short(bytes);
-    }
-    let (blocks, rest) = bytes.split_at(bytes.len() - bytes.len() % WIDE_LANES);
-    backslashes_of_blocks(blocks) + backslashes_short(rest)
-}
-
-/// The same of whole blocks of 64 bytes.
-fn backslashes_of_blocks(bytes: &[u8]) -> usize
-    requires { length bytes.now % 64 ≡ 0 }
-    ensures count { result ≡ count_by (λ b. b == 92) bytes.now }
-    ensures bound { result ≤ length bytes.now }
-{
-    let mut count = 0;
-    for block in 0..bytes.len() / WIDE_LANES {
-        count += backslashes_in(u8x64::from_slice(&bytes[WIDE_LANES * block..])) as usize;
-    }
-    count
-}
-
-/// The same of a short text. Eight bytes are looked at together. The last eight are so too, but for those that were
-/// counted.
-fn backslashes_short(bytes: &[u8]) -> usize
-    ensures count { result ≡ count_by (λ b. b == 92) bytes.now }
-    ensures bound { result ≤ length bytes.now }
-{
-    if bytes.len() < TEXT_LANES {
-        return backslashes_singly(bytes);
-    }
-    let blocks = (bytes.len() - 1) / TEXT_LANES;
-    let mut count = 0;
-    for block in 0..blocks {
-        count += backslashes_in(u8x8::from_slice(&bytes[TEXT_LANES * block..])) as usize;
-    }
-    let (front, last) = bytes.split_at(bytes.len() - TEXT_LANES);
-    count + backslashes_behind(TEXT_LANES * blocks - front.len(), u8x8::from_slice(last)) as usize
 }

@@ -8,11 +8,9 @@ ghost use Rattle.dcm_value.specs.Whole as spec;
 use crate::display::append_spaces;
 use crate::units::{FEW, FEW_TEXT, append_units, shown_unit};
 use crate::way::{Way, is_single, way_of};
+use crate::widths::UNCUT;
 use arrayvec::ArrayVec;
 use dcm_base::{Syntax, Vr};
-
-/// The most bytes of a display that is not cut.
-const LONGEST_SHOWN: usize = 66;
 
 /// Appends what a dump shows of a value of at most ten units, with the spaces up to 40 bytes, where that is not cut, so
 /// that both modes show the same. The answer is how many values there are; or nothing, and then nothing is appended.
@@ -61,7 +59,7 @@ fn append_shown<const N: usize>(
     let mut text: ArrayVec<u8, FEW_TEXT> = ArrayVec::new();
     append_units(vr, syntax, value, &mut text);
     let (_, shown) = text.as_slice().split_at(1);
-    if shown.len() > LONGEST_SHOWN {
+    if shown.len() > UNCUT {
         return None;
     }
     let _ = line.try_extend_from_slice(shown);

@@ -25,8 +25,8 @@ pub fn decoded_text_steps()
     ensures so_far { DecodedSoFar }
 {}
 
-/// A text of 20 to 7E without `%` and `]` is shown and counted as without Specific Character Set, whatever its pad
-/// byte.
+/// A text of bytes below 80 that designates nothing is shown and counted as without Specific Character Set, whatever its
+/// pad byte.
 pub fn ascii_as_before()
     ensures all { AsciiAsBefore }
     ensures unpadded { DecodedAsBefore }

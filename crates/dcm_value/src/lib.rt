@@ -22,6 +22,7 @@
 //!     assert!(rt; value.as_slice() == [1, 0, 0, 2].as_slice());
 #![tactic(auto)]
 
+mod counting;
 mod decimals;
 mod decoded;
 mod decoded_text;
@@ -43,6 +44,7 @@ mod way;
 mod whole;
 mod whole_decoded;
 mod whole_put;
+mod widths;
 
 pub use dcm_base::Mode;
 pub use decoded_text::{DecodedText, is_plain_value};
@@ -59,3 +61,4 @@ pub use way::takes_bytes;
 pub use whole::{append_whole, append_whole_ascii};
 pub use whole_decoded::append_decoded;
 pub use whole_put::put_decoded;
+pub use widths::DISPLAY_WIDTH;

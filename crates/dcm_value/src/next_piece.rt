@@ -6,8 +6,9 @@ ghost use Rattle.dcm_text.specs.TextPieces.{pieces_left};
 ghost use Rattle.dcm_value.specs.NextPiece as spec;
 ghost use Rattle.dcm_value.specs.Plain.{is_ascii_byte};
 
+use crate::counting::backslashes;
 use crate::decoded::is_backslash;
-use crate::escapes::{ascii_front, backslashes, is_ascii};
+use crate::escapes::{ascii_front, is_ascii};
 use crate::units::append_many;
 use arrayvec::ArrayVec;
 use dcm_text::{Meaning, TextPieces, append_dumped};

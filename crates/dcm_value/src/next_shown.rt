@@ -3,8 +3,9 @@ ghost use Rattle.std.specs.Prelude.{◌≡◌, ◌<◌, ◌≤◌, ◌+◌, [], 
 ghost use Rattle.dcm_text.specs.Runs.{run, state_of, bytes_left};
 ghost use Rattle.dcm_value.specs.NextShown as spec;
 
+use crate::counting::backslashes;
 use crate::decoded::is_backslash;
-use crate::escapes::{ascii_front, backslashes};
+use crate::escapes::ascii_front;
 use arrayvec::ArrayVec;
 use dcm_text::{Decoder, dumped};
 

@@ -13,6 +13,7 @@ use crate::digits::unescape;
 use crate::parts::part;
 use crate::units::{Kind, kind_of};
 use crate::way::{Way, way_of};
+use crate::whole::NO_VALUE;
 use arrayvec::ArrayVec;
 use dcm_base::{VALUE_LIMIT, Vr, uid_of};
 
@@ -200,7 +201,7 @@ pub fn read_value_into(
     if vr == Vr::SQ {
         return Err(BadValue);
     }
-    if text == b"(no value available)".as_slice() {
+    if text == NO_VALUE {
         return Ok(());
     }
     read_shape(vr, text, value)

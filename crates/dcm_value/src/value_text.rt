@@ -6,11 +6,12 @@ ghost use Rattle.dcm_base.specs.Dump.ValueText.{shown_unit as unit_size, shape};
 ghost use Rattle.dcm_value.specs.Display.{emit, at_once};
 ghost use Rattle.dcm_value.specs.Way as ways;
 
+use crate::counting::backslashes;
 use crate::display::Shown;
-use crate::escapes::backslashes;
 use crate::unit_buffer::UnitBuffer;
 use crate::units::{shown_unit, unit_text};
 use crate::way::{Way, is_single, unpadded, way_of, without_pad};
+use crate::whole::NO_VALUE;
 use arrayvec::ArrayVec;
 use dcm_base::{DeviceOut, Mode, Syntax, Vr, Watched, WriteFailed};
 
@@ -244,7 +245,7 @@ impl ValueText {
             (at_once self.old.shown.mode (spec.closing (progress self.old))) result }
     {
         if self.size == 0 {
-            return self.shown.emit(b"(no value available)", out);
+            return self.shown.emit(NO_VALUE, out);
         }
         match self.way() {
             Way::InBrackets => self.shown.emit(b"]", out),

@@ -11,21 +11,23 @@ ghost use Rattle.dcm_value.specs.Way as ways;
 ghost use Rattle.dcm_value.specs.Progress.{end_writes, multiplicity};
 ghost use Rattle.dcm_value.specs.Whole as spec;
 
+use crate::counting::backslashes;
 use crate::decoded_text::may_have_name;
 use crate::display::append_spaces;
-use crate::escapes::{backslashes, is_plain_ascii, is_plain_text};
+use crate::escapes::{is_plain_ascii, is_plain_text};
 use crate::way::{Way, is_single, unpadded, way_of};
+use crate::widths::UNCUT;
 use arrayvec::ArrayVec;
 use dcm_base::{Syntax, Vr, uid_name};
 
 /// The most bytes of a text that is shown at once: with its brackets it is not cut.
-const LONGEST_TEXT: usize = 64;
+const LONGEST_TEXT: usize = UNCUT - 2;
 
 /// The most bytes of a name that is shown at once: with its mark it is not cut.
-const LONGEST_NAME: usize = 65;
+const LONGEST_NAME: usize = UNCUT - 1;
 
-/// The bytes that tell of a value without bytes.
-const NO_VALUE: usize = 20;
+/// What is shown of a value without bytes.
+pub const NO_VALUE: &[u8] = b"(no value available)";
 
 /// Appends what a dump shows of a whole value, with the spaces up to 40 bytes, where that is known at once: of a value
 /// without bytes, of a text of at most 64 bytes that is shown as it is, and of a unique identifier that is so or has a
@@ -217,6 +219,6 @@ pub fn append_no_value<const N: usize>(line: &mut ArrayVec<u8, N>)
     ensures items { line.new.items ≡ line.old.items ++ padded (codes "(no value available)") }
     ensures within { length line.new.items ≤ length line.old.items + 66 }
 {
-    let _ = line.try_extend_from_slice(b"(no value available)");
-    append_spaces(NO_VALUE, line);
+    let _ = line.try_extend_from_slice(NO_VALUE);
+    append_spaces(NO_VALUE.len(), line);
 }

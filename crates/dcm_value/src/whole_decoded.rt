@@ -15,12 +15,10 @@ use crate::next_piece::next_of;
 use crate::units::{append, append_many};
 use crate::way::{is_single, unpadded};
 use crate::whole::append_no_value;
+use crate::widths::UNCUT;
 use arrayvec::ArrayVec;
 use dcm_base::{Mode, Vr};
 use dcm_text::{Sets, TextPieces};
-
-/// The longest display that is not cut.
-pub const UNCUT: usize = 66;
 
 /// The most bytes of ASCII that are shown at once.
 const RUN: usize = 64;

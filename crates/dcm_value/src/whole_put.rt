@@ -13,7 +13,8 @@ use crate::decoded_text::{DecodedText, kind_of, may_have_name, read_by};
 use crate::display::append_spaces;
 use crate::next_piece::next_of;
 use crate::way::unpadded;
-use crate::whole_decoded::{UNCUT, count, show_front};
+use crate::whole_decoded::{count, show_front};
+use crate::widths::UNCUT;
 use arrayvec::ArrayVec;
 use dcm_base::{DeviceOut, Mode, Vr, Watched, WriteFailed, put_all};
 use dcm_text::{Sets, TextPieces};
@@ -27,9 +28,6 @@ const RUN: usize = 256;
 
 /// The most bytes of a block that has room for one step more, which shows so many bytes, or the twelve of a piece.
 const FREE: usize = BLOCK - RUN - 12;
-
-/// The most bytes that `DecodedText` leaves to be written.
-const END: usize = 66;
 
 /// Writes what a dump shows in full of a whole value by Specific Character Set, with the spaces up to 40 bytes. The
 /// answer is how many values there are. Fails where the writer fails.
@@ -61,7 +59,7 @@ fn put_by_text<W: DeviceOut>(
     ensures wrote { Wrote W.DeviceOut out.old out.new (spec.decoded_text_of Full vr sets value.now) result }
     ensures count { IfOk result (λ n. n ≡ spec.decoded_count vr sets value.now) }
 {
-    let mut line: ArrayVec<u8, END> = ArrayVec::new();
+    let mut line: ArrayVec<u8, UNCUT> = ArrayVec::new();
     let mut text = DecodedText::new(vr, sets, value.len() as u32, Mode::Full);
     text.feed(value, out)?;
     let count = text.finish(&mut line, out)?;

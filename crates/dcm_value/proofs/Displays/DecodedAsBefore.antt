@@ -1,9 +1,10 @@
 -- A text of ASCII is shown as without Specific Character Set.
-use Rattle.std.proofs.Common.{◌≡◌, ◌<◌, ℕ, ◌+◌, ◌-◌, ◌%◌, ◌==◌, ◌&&◌, ◌||◌, not, nat_lt, Bool, true, false, cond, List, [], ◌∷◌, ◌++◌, length, take, drop, slice_index, get_or, codes, map, Option, Some, None, ap, sym, ◌∙◌, refl, arith, subst}
+use Rattle.std.proofs.Common.{◌≡◌, ◌<◌, ◌≤◌, ℕ, ◌+◌, ◌-◌, ◌/◌, ◌%◌, ◌==◌, ◌&&◌, ◌||◌, not, nat_lt, Bool, true, false, cond, List, [], ◌∷◌, ◌++◌, length, take, drop, slice_index, get_or, codes, map, Option, Some, None, ap, sym, ◌∙◌, refl, arith, subst}
 use Rattle.std.specs.Prelude.{nat_le, count_by, flat_map, bytes_eq, find, option_map, IsAscii}
 use Rattle.std.specs.List.{list_all}
 use Rattle.std.specs.Option.{option_map_or}
 use Rattle.std.proofs.lemmas.Bool.{and_parts, false≢true, cases_Bool}
+use Rattle.std.proofs.lemmas.Bool.{lt-ltb, le-ltb, cases_lt}
 use Rattle.std.proofs.lemmas.Bool.Decides.{nat_tests, leb_tells}
 use Rattle.std.proofs.lemmas.List.{take-append-drop}
 use Rattle.std.proofs.lemmas.List.Folds.{list_all-append, list_all_at}
@@ -11,19 +12,20 @@ use Rattle.std.proofs.lemmas.List.Sums.{sum_by-cons, sum_by-append}
 use Rattle.std.proofs.lemmas.Str.Ascii.{IsAscii-from_all}
 use mathlib.Core.Logic.{⊎_elim}
 use Rattle.dcm_base.specs.declared.vr.Vr.{Vr}
+use Rattle.dcm_base.specs.declared.vr.Vr.TheVariants.{UI}
 use Rattle.dcm_base.specs.declared.mode.Mode.{Mode}
 use Rattle.dcm_base.specs.declared.mode.Mode.TheVariants.{Short, Full}
 use Rattle.dcm_base.specs.Tables.Representation.{is_text, pad}
 use Rattle.dcm_base.specs.Tables.Uid.{Named, uid_name, uids, name_in}
 use Rattle.dcm_base.specs.Lines.ReadValue.{takes_bytes}
-use Rattle.dcm_base.specs.Dump.ValueText.{Shape, text, identifier, unsigned, signed, tags, hexadecimal, shape, is_single, escaped, unpadded, bracketed, identified, shown, display, shortened, padded, text_of, counted, count}
+use Rattle.dcm_base.specs.Dump.ValueText.{Shape, text, identifier, unsigned, signed, tags, hexadecimal, shape, is_single, escape, escaped, upper, unpadded, bracketed, identified, shown, display, shortened, padded, text_of, counted, count}
 use Rattle.dcm_text.specs.declared.set.TextKind.{TextKind}
 use Rattle.dcm_text.specs.declared.set.TextKind.TheVariants.{OneValue}
 use Rattle.dcm_text.specs.declared.sets.Sets.{Sets}
 use Rattle.dcm_text.specs.Sets.{sets_of}
 use Rattle.dcm_text.specs.First.{is_escape}
 use Rattle.dcm_text.specs.Decoding.{Piece, decoded}
-use Rattle.dcm_text.specs.Shown.{dumped, percent}
+use Rattle.dcm_text.specs.Shown.{digit, dumped, percent}
 use Rattle.dcm_text.specs.Laws.{is_plain, as_itself, ascii_dumped}
 use Rattle.dcm_text.proofs.Displays.{ascii_dump}
 use Rattle.dcm_text.proofs.Whole.{plain_decoded}
@@ -114,6 +116,63 @@ text_dumped sets kind t e =
     text_itself sets kind t e
     ∙ sym (plain_escaped t (all_as is_ascii_byte is_plain_byte (λ b f. (alike sets b f).before) t e))
 
+-- ---- a text of any bytes below 80 that designates nothing
+
+digit_upper : (n : ℕ) → digit n 65 ≡ upper n
+digit_upper n = ⊎_elim (λ l. decimal_one (lt-ltb n 10 l)) (λ l. letter (le-ltb n 10 l) l) (cases_lt n 10)
+  where
+    decimal_one : nat_lt n 10 ≡ true → digit n 65 ≡ upper n
+    decimal_one e = ap (λ t. cond t (48 + n) (65 + (n - 10))) e ∙ sym (ap (λ t. cond t (48 + n) (55 + n)) e)
+
+    letter : nat_lt n 10 ≡ false → 10 ≤ n → digit n 65 ≡ upper n
+    letter e l =
+        let same : 65 + (n - 10) ≡ 55 + n = omega (arith, l) in
+        ap (λ t. cond t (48 + n) (65 + (n - 10))) e ∙ same ∙ sym (ap (λ t. cond t (48 + n) (55 + n)) e)
+
+-- what dumps show of a byte of ASCII is what they show of it without sets
+byte_escaped : (b : ℕ) → ascii_dumped b ≡ escape b
+byte_escaped b =
+    ap (λ x. cond (nat_lt b 32 || b == 127 || b == 37 || b == 93) (37 ∷ x ∷ digit (b % 16) 65 ∷ []) (b ∷ [])) (digit_upper (b / 16))
+    ∙ ap (λ x. cond (nat_lt b 32 || b == 127 || b == 37 || b == 93) (37 ∷ upper (b / 16) ∷ x ∷ []) (b ∷ [])) (digit_upper (b % 16))
+
+all_escaped : (t : List ℕ) → flat_map ascii_dumped t ≡ escaped t
+all_escaped [] = refl
+all_escaped (b ∷ bs) = ap (λ (x : List ℕ). x ++ flat_map ascii_dumped bs) (byte_escaped b) ∙ ap (λ (x : List ℕ). escape b ++ x) (all_escaped bs)
+
+pub plain_dumped : (sets : Sets) (kind : TextKind) (t : List ℕ) → list_all (is_plain sets) t ≡ true → dumped sets kind t ≡ escaped t
+plain_dumped sets kind t e = ascii_dump sets kind t e ∙ all_escaped t
+
+digit_low : (d : ℕ) → d < 16 → low (upper d) ≡ true
+digit_low d l = ⊎_elim (λ h. decimal_low (lt-ltb d 10 h)) (λ h. letter_low (le-ltb d 10 h)) (cases_lt d 10)
+  where
+    decimal_low : nat_lt d 10 ≡ true → low (upper d) ≡ true
+    decimal_low e = ap (λ t. low (cond t (48 + d) (55 + d))) e ∙ lt-ltb (48 + d) 128 (omega (arith, l))
+
+    letter_low : nat_lt d 10 ≡ false → low (upper d) ≡ true
+    letter_low e = ap (λ t. low (cond t (48 + d) (55 + d))) e ∙ lt-ltb (55 + d) 128 (omega (arith, l))
+
+escape_low : (b : ℕ) → low b ≡ true → list_all low (escape b) ≡ true
+escape_low b e = go (nat_lt b 32 || b == 127 || b == 37 || b == 93)
+  where
+    below : (n : ℕ) → low n ≡ true → n < 128
+    below n h = grind (arith, nat_tests)
+
+    high : b / 16 < 16
+    high = let small : b < 128 = below b e in omega (arith, small)
+
+    go : (t : Bool) → list_all low (cond t (37 ∷ upper (b / 16) ∷ upper (b % 16) ∷ []) (b ∷ [])) ≡ true
+    go true = ap (λ t. t && (low (upper (b % 16)) && true)) (digit_low (b / 16) high) ∙ ap (λ t. t && true) (digit_low (b % 16) (omega arith))
+    go false = ap (λ t. t && true) e
+
+plain_low : (sets : Sets) (b : ℕ) → is_plain sets b ≡ true → low b ≡ true
+plain_low sets b e = (and_parts (low b) (not (is_escape sets b)) e).0
+
+pub escaped_low : (t : List ℕ) → list_all low t ≡ true → list_all low (escaped t) ≡ true
+escaped_low [] e = refl
+escaped_low (b ∷ bs) e =
+    let both = and_parts (low b) (list_all low bs) e in
+    list_all-append low (escape b) (escaped bs) ∙ ap (λ t. t && list_all low (escaped bs)) (escape_low b both.0) ∙ escaped_low bs both.1
+
 pub itself_counted : (t : List ℕ) → backslashes (map as_itself t) ≡ count_by (λ b. b == 92) t
 itself_counted [] = refl
 itself_counted (b ∷ bs) =
@@ -121,8 +180,11 @@ itself_counted (b ∷ bs) =
     ∙ ap (λ n. cond (b == 92) 1 0 + n) (itself_counted bs)
     ∙ sym (sum_by-cons (λ (x : ℕ). cond (x == 92) 1 0) b bs)
 
+plain_counted : (sets : Sets) (kind : TextKind) (t : List ℕ) → list_all (is_plain sets) t ≡ true → backslashes (decoded sets kind t) ≡ count_by (λ b. b == 92) t
+plain_counted sets kind t e = ap backslashes (plain_decoded sets kind t e) ∙ itself_counted t
+
 pub text_counted : (sets : Sets) (kind : TextKind) (t : List ℕ) → list_all is_ascii_byte t ≡ true → backslashes (decoded sets kind t) ≡ count_by (λ b. b == 92) t
-text_counted sets kind t e = ap backslashes (plain_decoded sets kind t (text_plain sets t e)) ∙ itself_counted t
+text_counted sets kind t e = plain_counted sets kind t (text_plain sets t e)
 
 -- ---- the pad byte is no backslash
 
@@ -217,16 +279,20 @@ shortened_alike Full d e = refl
 abbrev Same : Mode → Vr → Sets → List ℕ → Type 0
 Same mode vr sets v = (decoded_text_of mode vr sets v ≡ text_of mode vr v) × (decoded_count vr sets v ≡ count vr v)
 
-bracketed_low : (sets : Sets) (t : List ℕ) → list_all is_ascii_byte t ≡ true → list_all low (bracketed t) ≡ true
+bracketed_low : (sets : Sets) (t : List ℕ) → list_all (is_plain sets) t ≡ true → list_all low (bracketed t) ≡ true
 bracketed_low sets t e =
-    let is : escaped t ≡ t = plain_escaped t (all_as is_ascii_byte is_plain_byte (λ b f. (alike sets b f).before) t e) in
-    ap (λ x. list_all low (codes "[" ++ x ++ codes "]")) is
-    ∙ low_pair (codes "[" ++ t) (codes "]") (low_pair (codes "[") t refl (text_low sets t e)) refl
+    low_pair (codes "[" ++ escaped t) (codes "]")
+    (low_pair (codes "[") (escaped t) refl (escaped_low t (all_as (is_plain sets) low (plain_low sets) t e))) refl
 
-named_alike : (uid : List ℕ) → list_all is_ascii_byte uid ≡ true → decoded_identified uid ≡ identified uid
-named_alike uid e = ap (λ x. option_map_or (λ name. codes "=" ++ name) (uid_name uid) (codes "[" ++ x ++ codes "]")) (text_dumped (sets_of []) OneValue uid e)
+named_alike : (uid : List ℕ) → list_all (is_plain (sets_of [])) uid ≡ true → decoded_identified uid ≡ identified uid
+named_alike uid e = ap (λ x. option_map_or (λ name. codes "=" ++ name) (uid_name uid) (codes "[" ++ x ++ codes "]")) (plain_dumped (sets_of []) OneValue uid e)
 
-named_low : (uid : List ℕ) → list_all is_ascii_byte uid ≡ true → list_all low (identified uid) ≡ true
+-- what may have a name is read by what the empty value names
+named_sets : (vr : Vr) (sets : Sets) (size : ℕ) → is_named vr size ≡ true → sets_for vr sets ≡ sets_of []
+named_sets UI sets size e = refl
+named_sets vr sets size e = absurd (false≢true e)
+
+named_low : (uid : List ℕ) → list_all (is_plain (sets_of [])) uid ≡ true → list_all low (identified uid) ≡ true
 named_low uid e = go (uid_name uid) refl
   where
     go : (o : Option (List ℕ)) → uid_name uid ≡ o → list_all low (option_map_or (λ name. codes "=" ++ name) o (bracketed uid)) ≡ true
@@ -234,7 +300,7 @@ named_low uid e = go (uid_name uid) refl
     go (Some name) h = low_name uid name h
 
 -- a value by what is shown of it
-module _ (mode : Mode) (vr : Vr) (sets : Sets) (b : ℕ) (bs : List ℕ) (plain : list_all is_ascii_byte (unpadded vr (b ∷ bs)) ≡ true) where
+module _ (mode : Mode) (vr : Vr) (sets : Sets) (b : ℕ) (bs : List ℕ) (plain : list_all (is_plain (sets_for vr sets)) (unpadded vr (b ∷ bs)) ≡ true) where
   abbrev v : List ℕ
   v = b ∷ bs
 
@@ -248,20 +314,23 @@ module _ (mode : Mode) (vr : Vr) (sets : Sets) (b : ℕ) (bs : List ℕ) (plain 
   in_brackets is in_text =
       by_display
       (ap (λ x. cond x (decoded_identified t) (codes "[" ++ dumped (sets_for vr sets) (kind_of vr) t ++ codes "]")) in_text
-      ∙ ap (λ x. codes "[" ++ x ++ codes "]") (text_dumped (sets_for vr sets) (kind_of vr) t plain)
+      ∙ ap (λ x. codes "[" ++ x ++ codes "]") (plain_dumped (sets_for vr sets) (kind_of vr) t plain)
       ∙ sym is)
-      (ap (list_all low) is ∙ bracketed_low sets t plain)
+      (ap (list_all low) is ∙ bracketed_low (sets_for vr sets) t plain)
+
+  by_default : is_named vr (length v) ≡ true → list_all (is_plain (sets_of [])) t ≡ true
+  by_default name = subst (λ (s : Sets). list_all (is_plain s) t ≡ true) (named_sets vr sets (length v) name) plain
 
   by_name : shown (shape vr) vr v ≡ identified t → is_named vr (length v) ≡ true → decoded_text_of mode vr sets v ≡ text_of mode vr v
   by_name is name =
       by_display
       (ap (λ x. cond x (decoded_identified t) (codes "[" ++ dumped (sets_for vr sets) (kind_of vr) t ++ codes "]")) name
-      ∙ named_alike t plain ∙ sym is)
-      (ap (list_all low) is ∙ named_low t plain)
+      ∙ named_alike t (by_default name) ∙ sym is)
+      (ap (list_all low) is ∙ named_low t (by_default name))
 
   counts : counted (shape vr) vr v ≡ 1 + count_by (λ x. x == 92) v → decoded_count vr sets v ≡ count vr v
   counts is =
-      ap (λ n. cond (is_single vr) 1 (1 + n)) (text_counted (sets_for vr sets) (kind_of vr) t plain ∙ unpadded_counted vr v)
+      ap (λ n. cond (is_single vr) 1 (1 + n)) (plain_counted (sets_for vr sets) (kind_of vr) t plain ∙ unpadded_counted vr v)
       ∙ ap (cond (is_single vr) 1) (sym is)
 
 -- ---- all values
@@ -275,7 +344,7 @@ number_takes tags h = refl
 number_takes hexadecimal h = refl
 
 some_as_before : (mode : Mode) (vr : Vr) (sets : Sets) (b : ℕ) (bs : List ℕ) → takes_bytes (shape vr) ≡ true
-    → list_all is_ascii_byte (unpadded vr (b ∷ bs)) ≡ true → Same mode vr sets (b ∷ bs)
+    → list_all (is_plain (sets_for vr sets)) (unpadded vr (b ∷ bs)) ≡ true → Same mode vr sets (b ∷ bs)
 some_as_before mode vr sets b bs takes plain = go (sort vr)
   where
     as_name : shape vr ≡ identifier → decoded_text_of mode vr sets (b ∷ bs) ≡ text_of mode vr (b ∷ bs)
@@ -300,17 +369,17 @@ decoded_as_before mode vr sets [] takes plain = (ap padded (shortened_alike mode
 decoded_as_before mode vr sets (b ∷ bs) takes plain = some_as_before mode vr sets b bs takes plain
 
 -- also where the pad byte is one of them
-pub ascii_unpadded : (vr : Vr) (v : List ℕ) → list_all is_ascii_byte v ≡ true → list_all is_ascii_byte (unpadded vr v) ≡ true
-ascii_unpadded vr v e = go (length v % 2 == 0 && slice_index v (length v - 1) == pad vr)
+plain_unpadded : (p : ℕ → Bool) (vr : Vr) (v : List ℕ) → list_all p v ≡ true → list_all p (unpadded vr v) ≡ true
+plain_unpadded p vr v e = go (length v % 2 == 0 && slice_index v (length v - 1) == pad vr)
   where
-    front : (n : ℕ) → list_all is_ascii_byte (take n v) ≡ true
+    front : (n : ℕ) → list_all p (take n v) ≡ true
     front n =
-        (and_parts (list_all is_ascii_byte (take n v)) (list_all is_ascii_byte (drop n v))
-        (sym (list_all-append is_ascii_byte (take n v) (drop n v)) ∙ ap (list_all is_ascii_byte) (take-append-drop n v) ∙ e)).0
+        (and_parts (list_all p (take n v)) (list_all p (drop n v))
+        (sym (list_all-append p (take n v) (drop n v)) ∙ ap (list_all p) (take-append-drop n v) ∙ e)).0
 
-    go : (t : Bool) → list_all is_ascii_byte (cond t (take (length v - 1) v) v) ≡ true
+    go : (t : Bool) → list_all p (cond t (take (length v - 1) v) v) ≡ true
     go true = front (length v - 1)
     go false = e
 
 pub ascii_as_before : AsciiAsBefore
-ascii_as_before mode vr sets v takes plain = decoded_as_before mode vr sets v takes (ascii_unpadded vr v plain)
+ascii_as_before mode vr sets v takes plain = decoded_as_before mode vr sets v takes (plain_unpadded (is_plain (sets_for vr sets)) vr v plain)

@@ -4,7 +4,7 @@ use lib.Lanes.{chunk}
 use Rattle.std.proofs.lemmas.List.{drop-drop, length-take}
 use Rattle.std.proofs.lemmas.List.Sums.{count_by-le-length}
 use Rattle.dcm_value.proofs.Displays.TextLanes.{count_more, count_all, last_lanes}
-use Rattle.dcm_value.proofs.escapes.backslashes_short.Goals as goal
+use Rattle.dcm_value.proofs.counting.backslashes_short.Goals as goal
 
 pub loop-block-preserved : goal.loop-block-preserved
 loop-block-preserved c =

@@ -3,7 +3,7 @@ use Rattle.std.specs.Prelude.{count_by}
 use Rattle.std.proofs.lemmas.List.Sums.{count_by-le-length}
 use Rattle.dcm_value.proofs.Displays.Facts.{take_within}
 use Rattle.dcm_value.proofs.Displays.TextLanes.{count_more}
-use Rattle.dcm_value.proofs.escapes.backslashes_of_blocks.Goals as goal
+use Rattle.dcm_value.proofs.counting.backslashes_of_blocks.Goals as goal
 
 pub loop-block-preserved : goal.loop-block-preserved
 loop-block-preserved c =

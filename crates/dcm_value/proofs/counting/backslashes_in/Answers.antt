@@ -2,7 +2,7 @@ use Rattle.std.proofs.Common.{◌==◌, ◌≡◌, ℕ, eqb, ap, ◌∙◌, arit
 use lib.Count.{ones}
 use Rattle.std.proofs.lemmas.Simd.{bitmask_splat, ones-mask_l}
 use Rattle.std.proofs.lemmas.List.Sums.{count_by-le-length}
-use Rattle.dcm_value.proofs.escapes.backslashes_in.Goals as goal
+use Rattle.dcm_value.proofs.counting.backslashes_in.Goals as goal
 
 pub returns-clause-count : goal.returns-clause-count
 returns-clause-count g c = ap ones (bitmask_splat w8 eqb c.args.bytes g.row.LANES 92 c.fits-bytes.0 c.requires) ∙ ones-mask_l (λ b. b == 92) c.args.bytes

@@ -4,7 +4,7 @@ use Rattle.std.proofs.lemmas.Simd.{bitmask_splat}
 use Rattle.std.proofs.lemmas.List.{length-drop}
 use Rattle.std.proofs.lemmas.List.Sums.{count_by-le-length}
 use Rattle.dcm_value.proofs.Displays.TextLanes.{ones_behind}
-use Rattle.dcm_value.proofs.escapes.backslashes_behind.Goals as goal
+use Rattle.dcm_value.proofs.counting.backslashes_behind.Goals as goal
 
 pub returns-clause-count : goal.returns-clause-count
 returns-clause-count c =

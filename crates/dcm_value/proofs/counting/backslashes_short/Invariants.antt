@@ -1,10 +1,10 @@
 use Rattle.std.proofs.Common.{◌≡◌, ◌≤◌, ◌*◌, ◌==◌, take}
 use Rattle.std.specs.Prelude.{count_by}
-use Rattle.dcm_value.proofs.escapes.backslashes_of_blocks.Given as goal
+use Rattle.dcm_value.proofs.counting.backslashes_short.Given as goal
 
 -- those among the bytes so far
 abbrev pub invariant-loop-block : goal.invariant-loop-block
 invariant-loop-block l = record {
-  count : l.count ≡ count_by (λ b. b == 92) (take (64 * l.block) l.bytes);
-  bound : l.count ≤ 64 * l.block;
+  count : l.count ≡ count_by (λ b. b == 92) (take (8 * l.block) l.bytes);
+  bound : l.count ≤ 8 * l.block;
 }
