@@ -36,7 +36,7 @@ pub use head::{
 };
 pub use meta::{Meta, PREAMBLE, PREFIX};
 pub use meta_read::{MetaEnd, MetaRead};
-pub use pads::{size_without_pads, without_pads};
+pub use pads::{is_pad, size_without_pads, without_pads};
 pub use renewal::{AllStays, Renewal, Renewed};
 pub use rewriting::write_meta;
 pub use syntax_uid::SyntaxUid;

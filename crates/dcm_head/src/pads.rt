@@ -1,8 +1,9 @@
-// The bytes that make a transfer syntax even (PS3.5 9.1).
+// The bytes that make a value even (PS3.5 6.2, 9.1).
 ghost use Rattle.std.specs.Prelude.{◌≡◌, ◌≤◌, length};
 ghost use Rattle.dcm_base.specs.Tables.Transfer as spec;
 
-fn is_pad(byte: u8) -> bool
+/// Whether a byte pads a value (PS3.5 6.2).
+pub fn is_pad(byte: u8) -> bool
     ensures { result ≡ spec.is_pad byte }
 {
     byte == 0 || byte == b' '

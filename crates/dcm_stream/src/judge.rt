@@ -12,10 +12,7 @@ use super::{Bar, Sink};
 use dcm_base::{
     Container, Fault, Form, ITEM_GROUP, Length, Level, MOST_LISTS, Syntax, Vr, form_of, read_as,
 };
-use dcm_head::{Head, HeadRead, read_tag, read_tagged};
-
-/// The bytes of the head of an item or a delimiter (PS3.5 7.5).
-const ITEM_HEAD: u64 = 8;
+use dcm_head::{Head, HeadRead, SHORT_HEAD, read_tag, read_tagged};
 
 /// What a whole head opens or closes.
 #[derive(Clone, Copy, Debug, PartialEq, Eq)]
@@ -169,7 +166,7 @@ fn judge_item(inner: Level, declared: Length, room: Option<u64>) -> Result<Openi
     let Some(opening) = item_opening(inner, declared) else {
         return Err(Fault::UndefinedLength);
     };
-    if passes(with_length(ITEM_HEAD, declared), room) {
+    if passes(with_length(SHORT_HEAD as u64, declared), room) {
         return Err(Fault::PassesEnd);
     }
     Ok(opening)

@@ -9,6 +9,12 @@ ghost use Rattle.dcm_stream.specs.Machine.{sign_held};
 use arrayvec::ArrayVec;
 use dcm_base::{Dictionary, Syntax, Tag, Vr};
 
+/// PixelRepresentation.
+const PIXEL_REPRESENTATION: Tag = Tag {
+    group: 0x0028,
+    element: 0x0103,
+};
+
 /// The most bytes of a unit, so that they tell how a value begins in little endian order.
 const SIGN_BYTES: usize = 8;
 
@@ -23,7 +29,7 @@ pub struct OpenSign {
 pub fn says_sign(tag: Tag) -> bool
     ensures { result ≡ spelling.says_sign tag }
 {
-    tag.group == 0x28 && tag.element == 0x103
+    tag == PIXEL_REPRESENTATION
 }
 
 /// Whether these are the bytes of one.
