@@ -39,7 +39,7 @@ DecodedDumpsSoFar =
     → is_closed f ≡ false → Reads no_bar s start bytes (ended stop f) stop
     → outputs decoded_step decoded_writes (decoded_start d mode) (front_atoms s f) ≡ decoded_front d mode EMPTY 0 f
 
--- where all texts are ASCII, the dump is the one without characters, whatever is in force
+-- where all texts are ASCII and designate nothing, the dump is the one without characters, whatever is in force
 abbrev pub DecodedOfAscii : Type 0
 DecodedOfAscii = (d : Dictionary) (mode : Mode) (sets : Sets) (level : ℕ) (f : Front) → PlainFront f
     → decoded_front d mode sets level f ≡ dump_front d mode level f

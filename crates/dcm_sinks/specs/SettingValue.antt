@@ -15,6 +15,7 @@ use Rattle.dcm_head.specs.declared.head.Head.{Head}
 use Rattle.dcm_text.specs.declared.sets.Sets.{Sets}
 use Rattle.dcm_text.specs.Sets.{sets_of}
 use Rattle.dcm_sinks.specs.InForce.{EMPTY, is_setting}
+use Rattle.dcm_sinks.specs.declared.character_set.Setting.{Setting}
 
 -- what is in force here, what is in force around each open item, the innermost first, and the value on its way of an
 -- element that sets what is in force, where there is one
@@ -55,8 +56,11 @@ abbrev pub setting_by : (is_open : Bool) → List ℕ → Option (List ℕ)
 setting_by true value = Some value
 setting_by false value = None
 
-abbrev pub force_by : Sets → (around : List Sets) → (is_open : Bool) → (value : List ℕ) → ForceState
-force_by sets around is_open value = record { sets = sets; around = around; setting = setting_by is_open value }
+abbrev pub setting_of : Setting → Option (List ℕ)
+setting_of setting = setting_by setting.is_open setting.value.items
+
+abbrev pub force_by : Sets → (around : List Sets) → Setting → ForceState
+force_by sets around setting = record { sets = sets; around = around; setting = setting_of setting }
 
 abbrev pub with_setting : ForceState → Option (List ℕ) → ForceState
 with_setting f o = record f { setting = o }

@@ -35,7 +35,7 @@ pub fn decoded_dump_reads()
     ensures so_far { DecodedDumpsSoFar }
 {}
 
-/// A data set whose texts are of bytes 20 to 7E without `%` and `]` is dumped so as without characters, whatever is in
+/// A data set whose texts are of bytes below 80, none of them an ESC, is dumped so as without characters, whatever is in
 /// force.
 pub fn decoded_dump_of_ascii()
     ensures { DecodedOfAscii }

@@ -31,7 +31,8 @@ use Rattle.dcm_table.proofs.CellSteps.{missing_stays, too_long_stays, whole_stay
 use Rattle.dcm_table.proofs.EachSlot.{bytes_taken, bytes_in_slot}
 use Rattle.dcm_table.proofs.Folds.{map_map}
 use Rattle.dcm_table.proofs.Inside.{at}
-use Rattle.dcm_table.proofs.Settings.{hidden_sets_nothing, kept_if, kept_leaf, kept_of, kept_same, kept_twice, named_by, set_each, set_slot, sets_with}
+use Rattle.dcm_table.proofs.Settings.{hidden_sets_nothing, kept_if, kept_leaf, kept_of, kept_same, kept_twice, named_by, set_each, set_slot}
+use Rattle.dcm_sinks.specs.SettingValue.{sets_with}
 
 -- ---- maps over slots
 

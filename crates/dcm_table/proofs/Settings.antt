@@ -24,81 +24,14 @@ use Rattle.dcm_table.specs.Cell.{Cell, missing, open_value, open_too_long, whole
 use Rattle.dcm_table.specs.InForce.{CHARACTER_SET, is_setting, may_set, set_by}
 use Rattle.dcm_table.specs.Shown.{cell_or}
 use Rattle.dcm_table.specs.TableSink.{Slot, kept_or, with_sets, with_setting_byte, setting_opened}
-
--- ---- the bytes that are kept
-
-stays_if : (t : Bool) (x y : List ℕ) → t ≡ true → (if t then x else y) ≡ x
-stays_if t x y e = rw e refl
-
-stays_else : (t : Bool) (x y : List ℕ) → t ≡ false → (if t then x else y) ≡ y
-stays_else t x y e = rw e refl
-
-pub kept_bytes : (held v : List ℕ) → length held ≤ 513 → fold with_setting_byte held v ≡ take 513 (held ++ v)
-kept_bytes held [] h = sym (ap (take 513) (append-nil held) ∙ take_all 513 held h)
-kept_bytes held (b ∷ v) h =
-    ⊎_elim
-    (λ (some : length held < 513).
-    ap (λ (x : List ℕ). fold with_setting_byte x v) (stays_if (nat_lt (length held) 513) (held ++ b ∷ []) held (lt-ltb (length held) 513 some))
-    ∙ kept_bytes (held ++ b ∷ []) v (omega (arith, some, length-append held (b ∷ [])))
-    ∙ ap (take 513) (append_assoc held (b ∷ []) v))
-    (λ (full : 513 ≤ length held).
-    ap (λ (x : List ℕ). fold with_setting_byte x v) (stays_else (nat_lt (length held) 513) (held ++ b ∷ []) held (le-ltb (length held) 513 full))
-    ∙ kept_bytes held v h
-    ∙ take-append-le 513 held v full
-    ∙ sym (take-append-le 513 held (b ∷ v) full))
-    (cases_lt (length held) 513)
-
--- a longer value names what the empty one does, as its first 513 bytes do
-too_long_names : (value : List ℕ) → 512 < length value → sets_of value ≡ of_first []
-unfolding sets_of
-too_long_names value h = ap (λ (t : Bool). cond t (of_first []) (of_terms (terms_of value))) (lt-ltb 512 (length value) h)
-
-front_names : (value : List ℕ) → sets_of (take 513 value) ≡ sets_of value
-front_names value =
-    ⊎_elim
-    (λ (short : length value < 513). ap sets_of (take_all 513 value (omega (arith, short))))
-    (λ (long : 513 ≤ length value).
-    let size : length (take 513 value) ≡ 513 = length-take-le 513 value long in
-    too_long_names (take 513 value) (omega (arith, size)) ∙ sym (too_long_names value (omega (arith, long))))
-    (cases_lt (length value) 513)
-
-pub kept_names : (value : List ℕ) → sets_of (fold with_setting_byte [] value) ≡ sets_of value
-kept_names value = ap sets_of (kept_bytes [] value (omega arith)) ∙ front_names value
+use Rattle.dcm_sinks.specs.SettingValue.{sets_with}
+use Rattle.dcm_sinks.proofs.DecodedDumps.Settings.{kept_names, in_order, second}
 
 -- ---- what may set
-
-second : (a b : Bool) → (a && b) ≡ true → b ≡ true
-second true b e = e
-second false b e = cc
 
 first : (a b : Bool) → (a && b) ≡ true → a ≡ true
 first true b e = refl
 first false b e = cc
-
--- such values are single bytes
-one_unit : (vr : Vr) → may_set vr ≡ true → unit vr ≡ 1
-one_unit UI e = refl
-one_unit UN e = refl
-one_unit AT e = cc
-one_unit FD e = cc
-one_unit FL e = cc
-one_unit SL e = cc
-one_unit SS e = cc
-one_unit SV e = cc
-one_unit UL e = cc
-one_unit US e = cc
-one_unit UV e = cc
-one_unit vr e = cc
-
-in_order : (s : Syntax) (vr : Vr) (value : List ℕ) → may_set vr ≡ true → order s vr value ≡ value
-in_order (implicit_in d) vr value e = refl
-in_order (little_in d) vr value e = refl
-in_order (big_in d) vr value e = ap (λ (k : ℕ). turned k value) (one_unit vr e) ∙ turned_bytes value
-
--- what the value that was kept names
-abbrev pub sets_with : Option (List ℕ) → Sets → Sets
-sets_with None sets = sets
-sets_with (Some value) sets = sets_of value
 
 abbrev pub kept_of : Syntax → Tag → Vr → List ℕ → Option (List ℕ)
 kept_of s tag vr value = option_map (λ (x : List ℕ). fold with_setting_byte x (order s vr value)) (setting_opened (is_setting tag vr) None)

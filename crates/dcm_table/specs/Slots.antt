@@ -5,7 +5,8 @@ use Rattle.dcm_stream.specs.declared.skip.Skip.{Skip}
 use Rattle.dcm_stream.specs.Skip.{depth}
 use Rattle.dcm_table.specs.declared.cell.Progress.{Progress}
 use Rattle.dcm_table.specs.declared.cell.Progress.TheVariants.{Missing, Open, OpenTooLong, Whole, TooLong, NotShown}
-use Rattle.dcm_table.specs.declared.setting.Setting.{Setting}
+use Rattle.dcm_sinks.specs.declared.character_set.Setting.{Setting}
+pub use Rattle.dcm_sinks.specs.SettingValue.{setting_by, setting_of}
 use Rattle.dcm_table.specs.declared.slot.Slot.{Slot as HeldSlot}
 use Rattle.dcm_table.specs.Cell.{Cell, missing, open_value, open_too_long, whole, too_long, not_shown}
 use Rattle.dcm_table.specs.TableSink.{Slot, State}
@@ -30,14 +31,6 @@ slot_of slot = (slot.tag, cell_of slot.progress (value_of slot), slot.sets)
 
 abbrev pub slots_of : List HeldSlot → List Slot
 slots_of slots = map slot_of slots
-
--- the value on its way
-abbrev pub setting_by : (is_open : Bool) → List ℕ → Option (List ℕ)
-setting_by true value = Some value
-setting_by false value = None
-
-abbrev pub setting_of : Setting → Option (List ℕ)
-setting_of setting = setting_by setting.is_open setting.value.items
 
 abbrev pub state_by : Skip → (greatest : Tag) → List HeldSlot → Setting → State
 state_by skip greatest slots setting =

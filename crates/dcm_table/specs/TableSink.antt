@@ -17,6 +17,7 @@ use Rattle.dcm_text.specs.Sets.{sets_of}
 use Rattle.dcm_table.specs.Cell.{Cell, missing, cell_step}
 use Rattle.dcm_table.specs.Columns.{greatest_of}
 use Rattle.dcm_table.specs.InForce.{EMPTY, is_setting}
+pub use Rattle.dcm_sinks.specs.SettingValue.{with_setting_byte}
 
 -- a column's tag, its cell, and what is in force where its first element stands: behind all of them where there is none
 abbrev pub Slot : Type 0
@@ -107,13 +108,6 @@ slots_set setting slots ends = slots
 abbrev pub opens_setting : Tag → Vr → Length → Bool
 opens_setting tag vr (Known size) = is_setting tag vr
 opens_setting tag vr Undefined = false
-
--- the bytes of such a value that are kept: of a longer one it counts that it is longer than 512 bytes
-abbrev pub SETTING_LIMIT : ℕ
-SETTING_LIMIT = 513
-
-abbrev pub with_setting_byte : List ℕ → ℕ → List ℕ
-with_setting_byte value b = if nat_lt (length value) SETTING_LIMIT then value ++ b ∷ [] else value
 
 abbrev pub setting_opened : Bool → Option (List ℕ) → Option (List ℕ)
 setting_opened true setting = Some []

@@ -9,10 +9,10 @@ ghost use Rattle.dcm_table.specs.InForce.{EMPTY};
 ghost use Rattle.dcm_table.specs.TableSink.{slot_set, slot_step};
 ghost use Rattle.dcm_value.specs.Swap.{IsUnit};
 
-use crate::setting::empty;
 use crate::slot::Slot;
 use dcm_base::{Length, Syntax, Tag, Vr, vr_in};
 use dcm_head::Head;
+use dcm_sinks::default_sets;
 use dcm_stream::Token;
 use dcm_text::Sets;
 use dcm_value::swap;
@@ -119,7 +119,7 @@ impl Slot {
             progress: Progress::Missing,
             room,
             size: 0,
-            sets: empty(),
+            sets: default_sets(),
         })
     }
 
@@ -128,7 +128,7 @@ impl Slot {
         ensures { slot_of self.new ≡ (self.old.tag, spec.missing, EMPTY) }
     {
         self.progress = Progress::Missing;
-        self.sets = empty();
+        self.sets = default_sets();
     }
 
     /// After the end of a value that sets what is in force: where no element of the tag came, it is read by these.

@@ -17,10 +17,11 @@ ghost use Rattle.dcm_table.specs.TableSink as spec;
 
 use crate::column::{Column, Columns};
 use crate::index::{Index, Span};
-use crate::setting::{Setting, opens_setting};
+use crate::setting::{open_setting, opens_setting};
 use crate::slot::Slot;
 use dcm_base::{Syntax, Tag, WriteFailed};
 use dcm_head::Head;
+use dcm_sinks::Setting;
 use dcm_stream::{Bar, Sink, Skip, Token};
 use dcm_text::Sets;
 use std::alloc::{AllocError, Global};
@@ -252,7 +253,7 @@ impl Cells {
             Token::Open(head, syntax) => {
                 if !self.depth.is_open() {
                     self.offer(head, syntax);
-                    self.setting.open(&head);
+                    open_setting(&mut self.setting, &head);
                 }
                 self.depth.open(true);
             }

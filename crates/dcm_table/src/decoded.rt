@@ -35,7 +35,7 @@ fn is_printable(text: &[u8]) -> bool
 }
 
 /// Writes a text by what is in force, in double quotes: its characters in UTF-8, and bytes without a character as
-/// `\xNN`.
+/// `\xNN`. Fails where the writer fails.
 pub fn put_decoded<W: DeviceOut>(
     sets: Sets,
     kind: TextKind,

@@ -11,6 +11,21 @@ use dcm_base::{DeviceOut, Syntax, Vr, Watched, WriteFailed, put_all};
 use dcm_value::{shown_unit, unit_text};
 use ryu::Buffer;
 
+/// Of the 32 bits of a float (IEEE 754 3.4): what the sign counts, what the lowest bit of the exponent counts, and the
+/// exponent whose bits are all ones, which is of no number, or of an infinity.
+const SIGN_SINGLE: u32 = 0x8000_0000;
+
+const EXPONENT_SINGLE: u32 = 0x80_0000;
+
+const ONES_SINGLE: u32 = 255;
+
+/// The same of 64 bits.
+const SIGN_DOUBLE: u64 = 0x8000_0000_0000_0000;
+
+const EXPONENT_DOUBLE: u64 = 0x10_0000_0000_0000;
+
+const ONES_DOUBLE: u64 = 2047;
+
 /// The number of four bytes, the lowest first.
 fn number_of_four(bytes: &[u8]) -> u32
     requires { length bytes.now ≡ 4 }
@@ -24,22 +39,23 @@ fn number_of_eight(bytes: &[u8]) -> u64
     requires { length bytes.now ≡ 8 }
     ensures { result ≡ number_of bytes.now }
 {
-    let (low, high) = bytes.split_at(4);
-    u64::from(number_of_four(low)) + 0x1_0000_0000 * u64::from(number_of_four(high))
+    u64::from_le_bytes([
+        bytes[0], bytes[1], bytes[2], bytes[3], bytes[4], bytes[5], bytes[6], bytes[7],
+    ])
 }
 
 /// Whether these are the bits of no number.
 fn is_nan_single(bits: u32) -> bool
     ensures { result ≡ nan_bits binary32 bits }
 {
-    bits % 0x8000_0000 / 0x80_0000 == 255 && bits % 0x80_0000 != 0
+    bits % SIGN_SINGLE / EXPONENT_SINGLE == ONES_SINGLE && bits % EXPONENT_SINGLE != 0
 }
 
 /// Whether these are the bits of no number.
 fn is_nan_double(bits: u64) -> bool
     ensures { result ≡ nan_bits binary64 bits }
 {
-    bits % 0x8000_0000_0000_0000 / 0x10_0000_0000_0000 == 2047 && bits % 0x10_0000_0000_0000 != 0
+    bits % SIGN_DOUBLE / EXPONENT_DOUBLE == ONES_DOUBLE && bits % EXPONENT_DOUBLE != 0
 }
 
 /// Writes a float of four bytes.

@@ -82,7 +82,8 @@ fn put_text<W: DeviceOut>(
     }
 }
 
-/// Writes a name, or a text of which (0008,0005) says nothing, in double quotes, in this form.
+/// Writes a name, or a text of which (0008,0005) says nothing, in double quotes, in this form. Fails where the writer
+/// fails.
 pub fn put_quoted<W: DeviceOut>(
     form: TextForm,
     bytes: &[u8],

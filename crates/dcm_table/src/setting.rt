@@ -1,54 +1,11 @@
-// The value of Specific Character Set (0008,0005) that is on its way.
-ghost use Rattle.std.specs.Prelude.{◌≡◌, None, fold, option_map};
-ghost use Rattle.dcm_table.specs.InForce as in_force;
+// Which elements of a file's data set set what is in force (PS3.3 C.12.1.1.2).
+ghost use Rattle.std.specs.Prelude.{◌≡◌};
 ghost use Rattle.dcm_table.specs.Slots.{setting_of};
 ghost use Rattle.dcm_table.specs.TableSink as spec;
-ghost use Rattle.dcm_text.specs.Sets.{sets_of as sets_named};
 
-use arrayvec::ArrayVec;
-use dcm_base::{Length, Tag, Vr};
+use dcm_base::Length;
 use dcm_head::Head;
-use dcm_text::{Sets, sets_of};
-
-/// Specific Character Set.
-const CHARACTER_SET: Tag = Tag {
-    group: 0x0008,
-    element: 0x0005,
-};
-
-/// The bytes of a value that are kept: of a longer one it counts that it is longer than 512 bytes.
-const SETTING_LIMIT: usize = 513;
-
-/// The value of an element that sets what is in force, on its way where it is open.
-#[derive(Drop)]
-pub struct Setting {
-    pub is_open: bool,
-    pub value: ArrayVec<u8, SETTING_LIMIT>,
-}
-
-/// What the empty value names.
-pub fn empty() -> Sets
-    ensures { result ≡ in_force.EMPTY }
-{
-    Sets::DEFAULT
-}
-
-/// Whether a value of a representation may set what is in force: texts, unique identifiers and unknown values.
-fn may_set(vr: Vr) -> bool
-    ensures { result ≡ in_force.may_set vr }
-{
-    match vr {
-        Vr::UI | Vr::UN => true,
-        _ => vr.is_text(),
-    }
-}
-
-/// Whether a leaf sets what is in force behind it.
-fn is_setting(tag: Tag, vr: Vr) -> bool
-    ensures { result ≡ in_force.is_setting tag vr }
-{
-    tag == CHARACTER_SET && may_set(vr)
-}
+use dcm_sinks::{Setting, is_setting};
 
 /// Whether a head is that of a leaf that sets what is in force.
 #[inline(always)]
@@ -61,74 +18,13 @@ pub fn opens_setting(head: &Head) -> bool
     }
 }
 
-/// Keeps a byte, where there is room.
-fn keep_byte(value: &mut ArrayVec<u8, SETTING_LIMIT>, byte: u8)
-    ensures { value.new.items ≡ spec.with_setting_byte value.old.items byte }
+/// After the head of an element of the outermost level.
+#[inline(always)]
+pub fn open_setting(setting: &mut Setting, head: &Head)
+    ensures { setting_of setting.new ≡ spec.setting_opened
+        (spec.opens_setting head.now.tag head.now.vr head.now.length) (setting_of setting.old) }
 {
-    if value.len() < SETTING_LIMIT {
-        value.push(byte);
-    }
-}
-
-/// Keeps bytes, as far as there is room.
-fn keep(value: &mut ArrayVec<u8, SETTING_LIMIT>, bytes: &[u8])
-    ensures { value.new.items ≡ fold spec.with_setting_byte value.old.items bytes.now }
-{
-    for byte in bytes {
-        keep_byte(value, *byte);
-    }
-}
-
-impl Setting {
-    /// None is on its way.
-    pub fn new() -> Setting
-        ensures { setting_of result ≡ None }
-    {
-        Setting {
-            is_open: false,
-            value: ArrayVec::new(),
-        }
-    }
-
-    /// After the head of an element of the outermost level.
-    #[inline(always)]
-    pub fn open(&mut self, head: &Head)
-        ensures { setting_of self.new ≡ spec.setting_opened
-            (spec.opens_setting head.now.tag head.now.vr head.now.length) (setting_of self.old) }
-    {
-        if opens_setting(head) {
-            self.is_open = true;
-            self.value.clear();
-        }
-    }
-
-    /// After bytes of a value.
-    #[inline(always)]
-    pub fn add(&mut self, bytes: &[u8])
-        ensures { setting_of self.new ≡ option_map
-            (λ value. fold spec.with_setting_byte value bytes.now) (setting_of self.old) }
-    {
-        if self.is_open {
-            keep(&mut self.value, bytes);
-        }
-    }
-
-    /// The sets that the value names, where it is on its way.
-    #[inline(always)]
-    pub fn sets(&self) -> Option<Sets>
-        ensures { result ≡ option_map (λ value. sets_named value) (setting_of self.now) }
-    {
-        if !self.is_open {
-            return None;
-        }
-        Some(sets_of(self.value.as_slice()))
-    }
-
-    /// After the end of a value.
-    #[inline(always)]
-    pub fn close(&mut self)
-        ensures { setting_of self.new ≡ None }
-    {
-        self.is_open = false;
+    if opens_setting(head) {
+        setting.open(true);
     }
 }

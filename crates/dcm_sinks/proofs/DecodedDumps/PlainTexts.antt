@@ -27,15 +27,36 @@ use Rattle.dcm_text.proofs.Runs.{two_pieces}
 use Rattle.dcm_text.proofs.Whole.{plain_first, plain_decoded}
 use Rattle.dcm_value.specs.DecodedDisplay.{decoded_display, decoded_shortened, decoded_count, decoded_so_far}
 use Rattle.dcm_value.specs.DecodedProgress.{is_named, sets_for, kind_of, shown_pieces}
-use Rattle.dcm_value.specs.Plain.{is_ascii_byte}
-use Rattle.dcm_value.proofs.Displays.DecodedAsBefore.{decoded_as_before, text_dumped}
+use Rattle.dcm_value.proofs.Displays.DecodedAsBefore.{decoded_as_before, plain_dumped}
 use Rattle.dcm_value.proofs.Displays.DecodedAscii.{named_shape, is_identifier}
 use Rattle.dcm_sinks.specs.InForce.{set_by, sets_after}
 use Rattle.dcm_sinks.specs.DecodedDump.{is_decoded, text_line, decoded_line, decoded_set, decoded_items, decoded_open_value, decoded_front, decoded_open, decoded_open_item}
 use Rattle.dcm_sinks.specs.Layout.{line_rest}
-use Rattle.dcm_sinks.specs.PlainTexts.{PlainSet, PlainItems, PlainFront, PlainOpen, PlainOpenItem, is_open_as_before}
-use Rattle.dcm_sinks.specs.TextDump.{is_as_before}
+use Rattle.dcm_sinks.specs.PlainTexts.{PlainSet, PlainItems, PlainFront, PlainOpen, PlainOpenItem, is_low_byte, is_low_value, is_low_open}
 use Rattle.dcm_sinks.proofs.Dumps.LineParts.{line_in_parts}
+
+-- ---- bytes that designate nothing
+
+no : (t : Bool) → not t ≡ true → t ≡ false
+no true e = absurd cc
+no false e = refl
+
+abbrev pub Plain : Sets → ℕ → Type 0
+Plain sets b = (nat_lt b 0x80 ≡ true) × (is_escape sets b ≡ false)
+
+plain_byte : (sets : Sets) (b : ℕ) → is_low_byte b ≡ true → Plain sets b
+plain_byte sets b e =
+    let two = and_parts (nat_lt b 0x80) (not (b == 0x1B)) e in
+    (two.0, ap (λ (t : Bool). t && sets.extended) (no (b == 0x1B) two.1))
+
+all_plain : (sets : Sets) (t : List ℕ) → list_all is_low_byte t ≡ true → list_all (is_plain sets) t ≡ true
+all_plain sets [] e = refl
+all_plain sets (b ∷ bs) e =
+    let both = and_parts (is_low_byte b) (list_all is_low_byte bs) e in
+    let this = plain_byte sets b both.0 in
+    ap (λ (t : Bool). (t && not (is_escape sets b)) && list_all (is_plain sets) bs) this.0
+    ∙ ap (λ (t : Bool). not t && list_all (is_plain sets) bs) this.1
+    ∙ all_plain sets bs both.1
 
 -- ---- a whole value
 
@@ -43,10 +64,11 @@ is_ascii : (a b : Bool) → a ≡ true → (not a || b) ≡ true → b ≡ true
 is_ascii true b e f = f
 is_ascii false b e f = absurd cc
 
-line_of_ascii : (d : Dictionary) (mode : Mode) (sets : Sets) (level : ℕ) (tag : Tag) (vr : Vr) (v : List ℕ) → is_decoded vr ≡ true → is_as_before vr v ≡ true
+line_of_ascii : (d : Dictionary) (mode : Mode) (sets : Sets) (level : ℕ) (tag : Tag) (vr : Vr) (v : List ℕ) → is_decoded vr ≡ true → is_low_value vr v ≡ true
     → text_line d mode sets level tag vr v ≡ leaf_line d mode level tag vr v
 line_of_ascii d mode sets level tag vr v is before =
-    let same = decoded_as_before mode vr sets v is (is_ascii (is_decoded vr) (list_all is_ascii_byte (unpadded vr v)) is before) in
+    let texts : list_all is_low_byte (unpadded vr v) ≡ true = is_ascii (is_decoded vr) (list_all is_low_byte (unpadded vr v)) is before in
+    let same = decoded_as_before mode vr sets v is (all_plain (sets_for vr sets) (unpadded vr v) texts) in
     let start : List ℕ = line_start level tag (letters vr) in
     let n : Length = Known (length v) in
     line_in_parts d level tag (letters vr) (decoded_shortened mode (decoded_display vr sets v)) n (decoded_count vr sets v)
@@ -54,7 +76,7 @@ line_of_ascii d mode sets level tag vr v is before =
     ∙ sym (line_in_parts d level tag (letters vr) (shortened mode (display vr v)) n (decoded_count vr sets v))
     ∙ ap (λ (k : ℕ). line d level tag (letters vr) (shortened mode (display vr v)) n k) same.1
 
-leaf_of_ascii : (d : Dictionary) (mode : Mode) (sets : Sets) (level : ℕ) (tag : Tag) (vr : Vr) (v : List ℕ) → is_as_before vr v ≡ true
+leaf_of_ascii : (d : Dictionary) (mode : Mode) (sets : Sets) (level : ℕ) (tag : Tag) (vr : Vr) (v : List ℕ) → is_low_value vr v ≡ true
     → decoded_line d mode sets level tag vr v ≡ leaf_line d mode level tag vr v
 leaf_of_ascii d mode sets level tag vr v before = by_test (is_decoded vr) refl
   where
@@ -63,34 +85,6 @@ leaf_of_ascii d mode sets level tag vr v before = by_test (is_decoded vr) refl
     by_test false is = refl
 
 -- ---- a value that is open
-
-two_of : (a b c d : Bool) → not (a || b || c || d) ≡ true → (a ≡ false) × (b ≡ false)
-two_of false false c d e = (refl, refl)
-two_of false true c d e = absurd cc
-two_of true b c d e = absurd cc
-
-low : (b : ℕ) → nat_lt 126 b ≡ false → nat_lt b 0x80 ≡ true
-low b e = grind (arith, nat_tests)
-
-no_escape : (b : ℕ) → nat_lt b 32 ≡ false → (b == 0x1B) ≡ false
-no_escape b e = grind (arith, nat_tests)
-
-abbrev pub Plain : Sets → ℕ → Type 0
-Plain sets b = (nat_lt b 0x80 ≡ true) × (is_escape sets b ≡ false)
-
-plain_byte : (sets : Sets) (b : ℕ) → is_ascii_byte b ≡ true → Plain sets b
-plain_byte sets b e =
-    let two = two_of (nat_lt b 32) (nat_lt 126 b) (b == 37) (b == 93) e in
-    (low b two.1, ap (λ (t : Bool). t && sets.extended) (no_escape b two.0))
-
-all_plain : (sets : Sets) (t : List ℕ) → list_all is_ascii_byte t ≡ true → list_all (is_plain sets) t ≡ true
-all_plain sets [] e = refl
-all_plain sets (b ∷ bs) e =
-    let both = and_parts (is_ascii_byte b) (list_all is_ascii_byte bs) e in
-    let this = plain_byte sets b both.0 in
-    ap (λ (t : Bool). (t && not (is_escape sets b)) && list_all (is_plain sets) bs) this.0
-    ∙ ap (λ (t : Bool). not t && list_all (is_plain sets) bs) this.1
-    ∙ all_plain sets bs both.1
 
 -- each byte is decided at once
 -- after the first step, where this was found
@@ -110,20 +104,20 @@ run_none : (sets : Sets) (kind : TextKind) → run false (begun sets kind) [] �
 unfolding run
 run_none sets kind = refl
 
-run_plain : (sets : Sets) (kind : TextKind) (t : List ℕ) → list_all is_ascii_byte t ≡ true → run false (begun sets kind) t ≡ (map as_itself t, begun sets kind)
+run_plain : (sets : Sets) (kind : TextKind) (t : List ℕ) → list_all is_low_byte t ≡ true → run false (begun sets kind) t ≡ (map as_itself t, begun sets kind)
 run_plain sets kind [] e = run_none sets kind
 run_plain sets kind (b ∷ bs) e =
-    let both = and_parts (is_ascii_byte b) (list_all is_ascii_byte bs) e in
+    let both = and_parts (is_low_byte b) (list_all is_low_byte bs) e in
     two_pieces false (begun sets kind) (b ∷ []) bs
     ∙ ap (λ (r : Run). joined r (run false r.1 bs)) (one_plain sets kind b (plain_byte sets b both.0))
     ∙ ap (λ (r : Run). joined (as_itself b ∷ [], begun sets kind) r) (run_plain sets kind bs both.1)
 
-shown_plain : (sets : Sets) (kind : TextKind) (t : List ℕ) → list_all is_ascii_byte t ≡ true → shown_pieces (run false (begun sets kind) t) ≡ escaped t
+shown_plain : (sets : Sets) (kind : TextKind) (t : List ℕ) → list_all is_low_byte t ≡ true → shown_pieces (run false (begun sets kind) t) ≡ escaped t
 unfolding dumped
 shown_plain sets kind t e =
     ap shown_pieces (run_plain sets kind t e)
     ∙ ap (flat_map dumped_piece) (sym (plain_decoded sets kind t (all_plain sets t e)))
-    ∙ text_dumped sets kind t e
+    ∙ plain_dumped sets kind t (all_plain sets t e)
 
 -- by the form in which it is shown
 so_far_as : (s : Shape) (vr : Vr) (size : ℕ) (v : List ℕ) → takes_bytes s ≡ true
@@ -135,12 +129,12 @@ so_far_as signed vr size v e = absurd cc
 so_far_as tags vr size v e = absurd cc
 so_far_as hexadecimal vr size v e = absurd cc
 
-so_far_of_ascii : (sets : Sets) (vr : Vr) (size : ℕ) (v : List ℕ) → is_open_as_before vr v ≡ true → decoded_open_value vr sets size v ≡ shown_so_far (shape vr) vr size v
+so_far_of_ascii : (sets : Sets) (vr : Vr) (size : ℕ) (v : List ℕ) → is_low_open vr v ≡ true → decoded_open_value vr sets size v ≡ shown_so_far (shape vr) vr size v
 so_far_of_ascii sets vr size v before = by_test (is_decoded vr) refl
   where
     by_test : (t : Bool) → is_decoded vr ≡ t → (if t then decoded_so_far vr sets size v else shown_so_far (shape vr) vr size v) ≡ shown_so_far (shape vr) vr size v
     by_test true is =
-        ap (λ (z : List ℕ). cond (is_named vr size) [] (codes "[" ++ z)) (shown_plain (sets_for vr sets) (kind_of vr) v (is_ascii (is_decoded vr) (list_all is_ascii_byte v) is before))
+        ap (λ (z : List ℕ). cond (is_named vr size) [] (codes "[" ++ z)) (shown_plain (sets_for vr sets) (kind_of vr) v (is_ascii (is_decoded vr) (list_all is_low_byte v) is before))
         ∙ ap (λ (x : Bool). cond x [] (codes "[" ++ escaped v)) (named_shape vr size)
         ∙ so_far_as (shape vr) vr size v is
     by_test false is = refl

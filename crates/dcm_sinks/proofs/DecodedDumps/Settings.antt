@@ -60,12 +60,12 @@ front_names value =
     too_long_names (take 513 value) (omega (arith, size)) ∙ sym (too_long_names value (omega (arith, long))))
     (cases_lt (length value) 513)
 
-kept_names : (value : List ℕ) → sets_of (fold with_setting_byte [] value) ≡ sets_of value
+pub kept_names : (value : List ℕ) → sets_of (fold with_setting_byte [] value) ≡ sets_of value
 kept_names value = ap sets_of (kept_bytes [] value (omega arith)) ∙ front_names value
 
 -- ---- what may set
 
-second : (a b : Bool) → (a && b) ≡ true → b ≡ true
+pub second : (a b : Bool) → (a && b) ≡ true → b ≡ true
 second true b e = e
 second false b e = cc
 
@@ -84,7 +84,7 @@ one_unit US e = cc
 one_unit UV e = cc
 one_unit vr e = cc
 
-in_order : (s : Syntax) (vr : Vr) (value : List ℕ) → may_set vr ≡ true → order s vr value ≡ value
+pub in_order : (s : Syntax) (vr : Vr) (value : List ℕ) → may_set vr ≡ true → order s vr value ≡ value
 in_order (implicit_in d) vr value e = refl
 in_order (little_in d) vr value e = refl
 in_order (big_in d) vr value e = ap (λ (k : ℕ). turned k value) (one_unit vr e) ∙ turned_bytes value

@@ -29,10 +29,10 @@ use Rattle.dcm_stream.specs.Tokens.{whole_atoms, IsLeaf}
 use Rattle.dcm_text.specs.declared.sets.Sets.{Sets}
 use Rattle.dcm_value.specs.Display.{at_once}
 use Rattle.dcm_value.specs.DecodedDisplay.{decoded_text_of, decoded_count, decoded_display, decoded_shortened, decoded_so_far}
-use Rattle.dcm_value.specs.DecodedProgress.{DecodedProgress, started, opened, opening_writes, step, writes, feeds, finishes, multiplicity}
+use Rattle.dcm_value.specs.DecodedProgress.{DecodedProgress, started, opened, opening_writes, step, writes, feeds, finishes, multiplicity, sets_for}
 use Rattle.dcm_value.specs.Plain.{is_ascii_byte}
 use Rattle.dcm_value.specs.Whole.{text_in, count_in}
-use Rattle.dcm_value.proofs.Displays.DecodedAsBefore.{decoded_as_before}
+use Rattle.dcm_value.proofs.Displays.DecodedAsBefore.{decoded_as_before, text_plain}
 use Rattle.dcm_value.proofs.Displays.DecodedWholes.{decoded_whole, decoded_counts, decoded_text_so_far}
 use Rattle.dcm_value.proofs.Displays.TextSteps.{whole_text, whole_count}
 use Rattle.dcm_sinks.specs.declared.dump.lines.Owner.{Owner}
@@ -326,7 +326,7 @@ module _ (sets : Sets) (s : TextState) (head : Head) (syntax : Syntax) (v : List
           let vr : Vr = head.vr in
           let start : List ℕ = line_start level head.tag (letters vr) in
           let is : is_decoded vr ≡ true = decodes lost shape vr e in
-          let same = decoded_as_before mode vr sets v is (is_ascii (is_decoded vr) (list_all is_ascii_byte (unpadded vr v)) is before) in
+          let same = decoded_as_before mode vr sets v is (text_plain (sets_for vr sets) (unpadded vr v) (is_ascii (is_decoded vr) (list_all is_ascii_byte (unpadded vr v)) is before)) in
           let text : decoded_text_of mode vr sets v ≡ text_in mode vr syntax v = same.0 ∙ sym (whole_text vr syntax mode v ∙ ap (text_of mode vr) (in_order syntax vr v is)) in
           let many : decoded_count vr sets v ≡ count_in mode vr syntax v = same.1 ∙ sym (whole_count vr syntax mode v ∙ ap (count vr) (in_order syntax vr v is)) in
           ap (λ (l : Length). text_dumps sets s (atoms l)) leaf.length_is

@@ -10,8 +10,8 @@ ghost use Rattle.dcm_sinks.specs.InForce.{EMPTY};
 ghost use Rattle.dcm_text.specs.declared.set.TextKind.TheVariants.{OneValue};
 ghost use Rattle.dcm_text.specs.Shown.{dumped as shown_text};
 
+use crate::character_set::default_sets;
 use crate::dump::decoded::DecodedDumpSink;
-use crate::dump::in_force::empty;
 use dcm_base::{DeviceOut, Dictionary, Mode, Watched, WriteFailed, put_all, uid_name};
 use dcm_head::{Meta, MetaElement, first_element};
 use dcm_stream::{Token, take_all};
@@ -21,7 +21,7 @@ use dcm_text::{Decoder, TextKind, dumped};
 fn put_characters<W: DeviceOut>(text: &[u8], out: &mut Watched<W>) -> Result<(), WriteFailed>
     ensures { Wrote W.DeviceOut out.old out.new (shown_text EMPTY OneValue text.now) result }
 {
-    let mut decoder = Decoder::new(empty(), TextKind::OneValue);
+    let mut decoder = Decoder::new(default_sets(), TextKind::OneValue);
     let mut rest = text;
     while let Some((part, after)) = decoder.next(rest, true) {
         put_all(out, dumped(&part).as_slice())?;

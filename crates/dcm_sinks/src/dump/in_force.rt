@@ -2,26 +2,17 @@
 ghost use Rattle.std.specs.Prelude.{◌≡◌, None, fold, option_map};
 ghost use Rattle.dcm_base.specs.Steps.Atoms.{closes_leaf, closes_item};
 ghost use Rattle.dcm_stream.specs.Tokens.{atoms_of, whole_atoms};
-ghost use Rattle.dcm_sinks.specs.InForce as in_force;
 ghost use Rattle.dcm_sinks.specs.SettingValue as spec;
 ghost use Rattle.dcm_sinks.specs.SettingValue.{with_setting};
 ghost use Rattle.dcm_sinks.specs.Encoder.{opening};
 
+use crate::character_set::{Setting, default_sets, is_character_set, is_setting};
 use arrayvec::ArrayVec;
-use dcm_base::{Form, MOST_OPEN, Syntax, Tag, Vr, form_of, read_as};
+use dcm_base::{Form, MOST_OPEN, Syntax, form_of, read_as};
 use dcm_head::Head;
 use dcm_stream::Token;
-use dcm_text::{Sets, sets_of};
+use dcm_text::Sets;
 use std::marker::Model;
-
-/// Specific Character Set.
-const CHARACTER_SET: Tag = Tag {
-    group: 0x0008,
-    element: 0x0005,
-};
-
-/// The bytes of a value that are kept: of a longer one it counts that it is longer than 512 bytes.
-const SETTING_LIMIT: usize = 513;
 
 /// What is in force, here and around each open item, and the value on its way of an element that sets it
 /// (PS3.3 C.12.1.1.2).
@@ -29,8 +20,7 @@ const SETTING_LIMIT: usize = 513;
 pub struct InForce {
     sets: Sets,
     outermost_first: ArrayVec<Sets, MOST_OPEN>,
-    is_open: bool,
-    value: ArrayVec<u8, SETTING_LIMIT>,
+    setting: Setting,
 }
 
 impl Model for InForce {
@@ -39,31 +29,7 @@ impl Model for InForce {
 
     ghost Value = { ForceState };
 
-    ghost view = { λ f. force_by f.sets (reverse f.outermost_first.items) f.is_open f.value.items };
-}
-
-/// What the empty value names.
-pub fn empty() -> Sets
-    ensures { result ≡ in_force.EMPTY }
-{
-    Sets::DEFAULT
-}
-
-/// Whether a value of a representation may set what is in force: texts, unique identifiers and unknown values.
-fn may_set(vr: Vr) -> bool
-    ensures { result ≡ in_force.may_set vr }
-{
-    match vr {
-        Vr::UI | Vr::UN => true,
-        _ => vr.is_text(),
-    }
-}
-
-/// Whether an element is Specific Character Set.
-pub fn is_character_set(tag: Tag) -> bool
-    ensures { result ≡ in_force.is_character_set tag }
-{
-    tag == CHARACTER_SET
+    ghost view = { λ f. force_by f.sets (reverse f.outermost_first.items) f.setting };
 }
 
 /// Whether a head is that of a leaf that sets what is in force behind it.
@@ -72,26 +38,8 @@ fn opens_setting(head: Head, syntax: Syntax) -> bool
     ensures { result ≡ spec.head_sets head syntax }
 {
     match form_of(syntax, read_as(syntax, head.tag, head.vr), head.length) {
-        Form::Value => is_character_set(head.tag) && may_set(head.vr),
+        Form::Value => is_setting(head.tag, head.vr),
         Form::Sequence | Form::FragmentList | Form::Nothing => false,
-    }
-}
-
-/// Keeps a byte, where there is room.
-fn keep_byte(value: &mut ArrayVec<u8, SETTING_LIMIT>, byte: u8)
-    ensures { value.new.items ≡ spec.with_setting_byte value.old.items byte }
-{
-    if value.len() < SETTING_LIMIT {
-        value.push(byte);
-    }
-}
-
-/// Keeps bytes, as far as there is room.
-fn keep(value: &mut ArrayVec<u8, SETTING_LIMIT>, bytes: &[u8])
-    ensures { value.new.items ≡ fold spec.with_setting_byte value.old.items bytes.now }
-{
-    for byte in bytes {
-        keep_byte(value, *byte);
     }
 }
 
@@ -101,10 +49,9 @@ impl InForce {
         ensures { result ≡ spec.force_start }
     {
         InForce {
-            sets: empty(),
+            sets: default_sets(),
             outermost_first: ArrayVec::new(),
-            is_open: false,
-            value: ArrayVec::new(),
+            setting: Setting::new(),
         }
     }
 
@@ -121,7 +68,7 @@ impl InForce {
     fn pass(&mut self)
         ensures { self.new ≡ with_setting self.old None }
     {
-        self.is_open = false;
+        self.setting.close();
     }
 
     /// After the head of an element.
@@ -129,10 +76,8 @@ impl InForce {
     fn open(&mut self, head: Head, syntax: Syntax)
         ensures { self.new ≡ spec.force_step self.old (opening head syntax) }
     {
-        self.is_open = is_character_set(head.tag) && opens_setting(head, syntax);
-        if self.is_open {
-            self.value.clear();
-        }
+        self.setting
+            .open(is_character_set(head.tag) && opens_setting(head, syntax));
     }
 
     /// After bytes of a value.
@@ -141,9 +86,7 @@ impl InForce {
         ensures { self.new ≡ with_setting self.old (option_map
             (λ value. fold spec.with_setting_byte value bytes.now) self.old.setting) }
     {
-        if self.is_open {
-            keep(&mut self.value, bytes);
-        }
+        self.setting.add(bytes);
     }
 
     /// After the end of a value: one that sets what is in force does so from here on.
@@ -151,10 +94,10 @@ impl InForce {
     fn close(&mut self)
         ensures { self.new ≡ spec.force_step self.old closes_leaf }
     {
-        if self.is_open {
-            self.sets = sets_of(self.value.as_slice());
-            self.is_open = false;
+        if let Some(sets) = self.setting.sets() {
+            self.sets = sets;
         }
+        self.setting.close();
     }
 
     /// After the beginning of an item.

@@ -14,10 +14,8 @@ use arrayvec::ArrayVec;
 use dcm_base::{
     DeviceOut, Dictionary, Length, Tag, Watched, WriteFailed, keyword_in, put_all, put_parts,
 };
+use dcm_value::DISPLAY_WIDTH;
 use itoa::Buffer;
-
-/// The width to which a display is padded.
-const DISPLAY_WIDTH: usize = 40;
 
 /// The width in which a length is written at the right.
 const LENGTH_WIDTH: usize = 3;

@@ -244,9 +244,6 @@ impl Copier {
         ensures { Wrote W.DeviceOut out.old out.new (spec.copy_ends (copying self.now)) result }
     {
         put_all(out, self.held.as_slice())?;
-        match self.pad {
-            Some(pad) => put_all(out, &[pad]),
-            None => Ok(()),
-        }
+        put_padding(self.pad, out)
     }
 }

@@ -14,7 +14,7 @@ loop-part-init g c =
     record {
       out =
           subst (λ (x : List ℕ). TextSoFar out out (dumped EMPTY OneValue c.args.text.now) x)
-          (dumped_run EMPTY OneValue c.args.text.now (state_of c.new-decoder.result) (c.new-decoder.ensures ∙ ap (λ (x : Sets). begun x OneValue) c.empty.ensures)) (text_none out _);
+          (dumped_run EMPTY OneValue c.args.text.now (state_of c.new-decoder.result) (c.new-decoder.ensures ∙ ap (λ (x : Sets). begun x OneValue) c.default_sets.ensures)) (text_none out _);
       failed = refl;
     }
 

@@ -1,6 +1,6 @@
 use Rattle.std.proofs.Common.{◌≡◌, take, fold}
-use Rattle.dcm_table.specs.TableSink.{with_setting_byte}
-use Rattle.dcm_table.proofs.setting.keep.Given as goal
+use Rattle.dcm_sinks.specs.SettingValue.{with_setting_byte}
+use Rattle.dcm_sinks.proofs.character_set.keep.Given as goal
 
 -- the bytes so far are kept, as far as there is room
 abbrev pub invariant-loop-byte : goal.invariant-loop-byte
