@@ -24,8 +24,8 @@ use crate::line::{Meaning, Step, means, without_return};
 use crate::open_containers::OpenContainers;
 use arrayvec::ArrayVec;
 use dcm_base::{
-    Coding, Container, DeviceOut, Length, LineFault, MOST_LISTS, Stopped, Syntax, Tag, VALUE_LIMIT,
-    Vr, Watched, WriteFailed,
+    Container, DeviceOut, Length, LineFault, MOST_LISTS, Stopped, Syntax, Tag, VALUE_LIMIT, Vr,
+    Watched, WriteFailed,
 };
 use dcm_head::Head;
 use dcm_sinks::Encoder;

@@ -8,7 +8,6 @@ ghost use Rattle.dcm_base.specs.File.MetaReads.{syntax_value as value_named};
 ghost use Rattle.dcm_base.specs.Lines.ReadValue.{VALUE_LIMIT};
 ghost use Rattle.dcm_base.specs.Reading.Size.{trees_size};
 ghost use Rattle.dcm_base.specs.Bytes.Spelling.{form};
-ghost use Rattle.dcm_base.specs.Tables.Transfer.{without_pads as unpadded};
 ghost use Rattle.dcm_base.specs.declared.form.Form.TheVariants.{Value as a_value};
 ghost use Rattle.dcm_base.specs.declared.length.Length.TheVariants.{Known};
 ghost use Rattle.dcm_base.specs.Tables.Syntax.{Little};
@@ -22,7 +21,7 @@ use dcm_base::{
 };
 use dcm_head::{
     Head, LONG_HEAD, META_LIMIT, PREAMBLE, PREFIX, SHORT_HEAD, SyntaxUid, element_head,
-    first_element, size_without_pads, write_meta,
+    first_element, without_pads, write_meta,
 };
 use std::marker::Model;
 
@@ -44,15 +43,6 @@ impl Model for NewGroup {
     ghost view = { λ g. elements_of g.spelled.items };
 
     ghost invariant = { λ g. IsGroup g.spelled.items };
-}
-
-/// A value without the bytes 00 and 20 at its end.
-fn without_pads(value: &[u8]) -> &[u8]
-    ensures value { result.now ≡ unpadded value.now }
-    ensures within { length result.now ≤ length value.now }
-{
-    let (kept, _) = value.split_at(size_without_pads(value));
-    kept
 }
 
 /// The coding that a transfer syntax means, unless it is empty or deflated.

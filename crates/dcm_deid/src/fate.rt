@@ -6,6 +6,7 @@ ghost use Rattle.dcm_deid.specs.Fate as spec;
 ghost use Rattle.dcm_deid.specs.Marks as marking;
 
 use crate::kept_numbers::{KEPT_SEQUENCES, KEPT_VALUES};
+use crate::said::{DATES, IS_REMOVED, METHOD, METHOD_CODES};
 use crate::table::{ACTIONS, Action, MARKS};
 use dcm_base::{Dictionary, Tag, Vr, known_vr_in, spread};
 
@@ -313,16 +314,15 @@ fn fate_of_known(options: &Options, tag: Tag, vr: Vr) -> Fate
 fn is_put(options: &Options, tag: Tag) -> bool
     ensures { result ≡ spec.is_put options.now tag }
 {
-    match (tag.group, tag.element) {
-        (0x0012, 0x0062..=0x0064) => true,
-        (0x0028, 0x0303) => !options.dates.are_full(),
+    match tag {
+        IS_REMOVED | METHOD | METHOD_CODES => true,
+        DATES => !options.dates.are_full(),
         _ => false,
     }
 }
 
 /// Whether an element that the dictionary has goes whatever the table says: a length of a group, a sequence that was
-/// read as
-/// bytes, since nobody looked into it, or what says what was done.
+/// read as bytes, since nobody looked into it, or what says what was done.
 fn is_removed(options: &Options, depth: Depth, read: ReadAs, tag: Tag, vr: Vr) -> bool
     ensures { result ≡ spec.is_removed options.now depth read tag vr }
 {

@@ -1,6 +1,5 @@
 // The value of an open element that has to be known when it ends.
 ghost use Rattle.std.specs.Prelude.{◌≡◌, ◌≤◌, ◌+◌, ◌++◌, fold, length};
-ghost use Rattle.dcm_base.specs.Tables.Transfer.{is_pad};
 ghost use Rattle.dcm_base.specs.Tree.Value.{order};
 ghost use Rattle.dcm_deid.specs.DeidentifySink as spec;
 ghost use Rattle.dcm_deid.specs.Deidentifying.{held};
@@ -10,7 +9,7 @@ use crate::fate::{Fate, Options};
 use crate::key::UidKey;
 use arrayvec::ArrayVec;
 use dcm_base::{Syntax, Tag, Vr};
-use dcm_head::without_pads;
+use dcm_head::{is_pad, without_pads};
 use dcm_value::swap;
 
 /// The most bytes that are held: 64 characters of a PatientID (PS3.5 6.2) have up to four each.
@@ -25,13 +24,6 @@ pub struct HeldValue {
     pub syntax: Syntax,
     pub bytes: ArrayVec<u8, MOST_HELD>,
     pub is_longer: bool,
-}
-
-/// Whether a byte pads a value.
-fn is_pad(byte: u8) -> bool
-    ensures { result ≡ is_pad byte }
-{
-    byte == 0 || byte == b' '
 }
 
 /// The same bytes once more.

@@ -5,14 +5,11 @@ ghost use Rattle.dcm_deid.specs.Meta.{meta_renewing};
 
 use crate::fate::Options;
 use crate::key::UidKey;
-use dcm_base::Tag;
+use dcm_base::{META_GROUP, Tag};
 use dcm_head::{MetaElement, PREAMBLE, Renewal, Renewed};
 
 /// The preamble of a file without identity.
 pub const NO_PREAMBLE: [u8; PREAMBLE] = [0; PREAMBLE];
-
-/// The group of the meta elements (PS3.10 7.1).
-const META_GROUP: u16 = 0x0002;
 
 /// What becomes of a meta element.
 #[derive(Clone, Copy, Debug, PartialEq, Eq)]

@@ -12,25 +12,25 @@ use dcm_head::Head;
 use dcm_stream::{Sink, Token, take_all};
 
 /// PatientIdentityRemoved.
-const IS_REMOVED: Tag = Tag {
+pub const IS_REMOVED: Tag = Tag {
     group: 0x0012,
     element: 0x0062,
 };
 
 /// DeidentificationMethod.
-const METHOD: Tag = Tag {
+pub const METHOD: Tag = Tag {
     group: 0x0012,
     element: 0x0063,
 };
 
 /// DeidentificationMethodCodeSequence.
-const METHOD_CODES: Tag = Tag {
+pub const METHOD_CODES: Tag = Tag {
     group: 0x0012,
     element: 0x0064,
 };
 
 /// LongitudinalTemporalInformationModified.
-const DATES: Tag = Tag {
+pub const DATES: Tag = Tag {
     group: 0x0028,
     element: 0x0303,
 };
@@ -212,7 +212,7 @@ fn put_methods<S: Sink>(options: &Options, sink: &mut S) -> Result<(), WriteFail
     sink.take(Token::CloseSeq)
 }
 
-/// Passes on what says that the dates stayed, or went.
+/// Passes on what says that the dates stayed, were moved, or went.
 fn put_dates<S: Sink>(options: &Options, sink: &mut S) -> Result<(), WriteFailed>
     ensures { sinks.Took S.Sink sink.old sink.new (spec.dates_said options.now) result }
 {

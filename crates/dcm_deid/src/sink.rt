@@ -275,7 +275,7 @@ pub struct DeidentifySink<'a, S> {
 }
 
 impl<'a, S: Sink> DeidentifySink<'a, S> {
-    /// The key is that of new unique identifiers.
+    /// The key is that of all that is made anew: unique identifiers, and pseudonyms.
     pub fn new(options: Options, key: &'a [u8], inner: &'a mut S) -> Self
         ensures same_reference { result.inner.ghost_name ≡ inner.entry.ghost_name }
         ensures inner { result.inner.now ≡ inner.old }

@@ -1,7 +1,7 @@
 // What an edit asks of an open data set, which lies within so many items.
 ghost use Rattle.std.specs.Prelude.{◌≡◌, ◌&&◌, ◌||◌, ◌==◌, ◌<◌, ◌^◌};
 ghost use Rattle.std.specs.List.{list_all};
-ghost use Rattle.dcm_base.specs.Tables.Tag.{same_tag, is_private as is_private_tag};
+ghost use Rattle.dcm_base.specs.Tables.Tag.{same_tag};
 ghost use Rattle.dcm_edits.specs.Edit as spec;
 ghost use Rattle.dcm_editor.specs.EditSink.{has_place as has_place_spec, makes as makes_spec};
 ghost use Rattle.dcm_editor.specs.Asking as asking;
@@ -55,14 +55,6 @@ pub enum Question {
     Erases(Tag, u32),
     /// Whether it asks something of each data set, and nothing of its place.
     IsEverywhere,
-}
-
-/// The group of private elements is odd (PS3.5 7.8).
-#[inline(always)]
-pub fn is_private(tag: Tag) -> bool
-    ensures { result ≡ is_private_tag tag }
-{
-    tag.group % 2 == 1
 }
 
 #[inline(always)]
@@ -167,7 +159,7 @@ pub fn fate_by<A: Allocator>(edit: &Edit<A>, depth: usize, tag: Tag) -> Fate<'_,
         Edit::OnPath(path) => path_fate(path, depth, tag),
         Edit::ModifyAll(element) => becomes_if(element, tag),
         Edit::EraseAll(erased) if is_same(*erased, tag) => Fate::Goes,
-        Edit::ErasePrivate if is_private(tag) => Fate::Goes,
+        Edit::ErasePrivate if tag.is_private() => Fate::Goes,
         Edit::EraseAll(_) | Edit::ErasePrivate => Fate::Stays,
     }
 }

@@ -7,7 +7,7 @@ ghost use Rattle.dcm_editor.specs.Indexes as indexes;
 ghost use Rattle.dcm_editor.specs.Masks as masks;
 ghost use Rattle.std.specs.Int.Bits.{bit_and};
 
-use crate::asked::{Question, is_private};
+use crate::asked::Question;
 use crate::mask::{all, with_bit};
 use crate::place::Asked;
 use dcm_base::{Tag, spread};
@@ -199,7 +199,7 @@ impl TagIndex {
         ensures { result ≡ indexes.candidates self.now mask tag }
     {
         let named = self.ends.at(tag) | self.makers;
-        if is_private(tag) {
+        if tag.is_private() {
             return mask & (named | self.private);
         }
         mask & named

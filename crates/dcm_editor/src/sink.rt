@@ -23,7 +23,7 @@ use crate::mask::unset_bits;
 use crate::new::{put_leaf_at, put_new};
 use crate::place::Asked;
 use dcm_base::{Length, Syntax, Tag, WriteFailed};
-use dcm_edits::{Edit, Edits, NewElement};
+use dcm_edits::{Edit, Edits};
 use dcm_head::Head;
 use dcm_stream::{Bar, Sink, Token, WholeFailed};
 use std::alloc::{Allocator, Global};

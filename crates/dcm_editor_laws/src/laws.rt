@@ -35,10 +35,8 @@ pub fn modified_all_is_so()
 {}
 
 /// What no edit may change stays as it was: without the elements of the tags that edits may change, at every depth, the
-/// edited
-/// data set and the one that was read are the same. These are the last tag of each edit, each tag on the path of an
-/// `-i`, and with
-/// `-ep` those of odd groups.
+/// edited data set and the one that was read are the same. These are the last tag of each edit, each tag on the path of
+/// an `-i`, and with `-ep` those of odd groups.
 pub fn others_stay()
     ensures { laws.OthersStay }
 {}

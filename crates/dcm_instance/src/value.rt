@@ -1,10 +1,10 @@
 // The value of a unique identifier, as it comes.
 ghost use Rattle.std.specs.Prelude.{◌≡◌, fold, option_map};
-ghost use Rattle.dcm_base.specs.Tables.Transfer.{is_pad};
 ghost use Rattle.dcm_instance.specs.UidSink as spec;
 
 use crate::names::{MOST_OF_UID, Uid, fit};
 use arrayvec::ArrayVec;
+use dcm_head::is_pad;
 use std::marker::Model;
 
 /// How far an element has come.
@@ -35,13 +35,6 @@ impl Model for UidValue {
       progress = v.progress;
       held = record { bytes = v.bytes.items; is_longer = v.is_longer };
     } };
-}
-
-/// Whether a byte pads a value.
-fn is_pad(byte: u8) -> bool
-    ensures { result ≡ is_pad byte }
-{
-    byte == 0 || byte == b' '
 }
 
 impl UidValue {

@@ -8,6 +8,14 @@ use sha2::{Digest, Sha256};
 /// The bytes of a block (FIPS 180-4 table 1).
 const BLOCK: usize = 64;
 
+/// The bytes of a digest, and of an authentication code (FIPS 180-4 table 1).
+pub const CODE_SIZE: usize = 32;
+
+/// What each byte of the block of the key is turned by for the inner pass, and for the outer one (RFC 2104 2).
+const INNER_PAD: u8 = 0x36;
+
+const OUTER_PAD: u8 = 0x5C;
+
 /// A clone that cannot fail.
 fn copied<T: Clone>(x: &T) -> T
     requires { T.is_infallible x.now }
@@ -65,13 +73,13 @@ impl Key {
     {
         let block = block_of(key);
         Key {
-            inner: Sha256::new_with_prefix(&turned(0x36, &block)),
-            outer: Sha256::new_with_prefix(&turned(0x5C, &block)),
+            inner: Sha256::new_with_prefix(&turned(INNER_PAD, &block)),
+            outer: Sha256::new_with_prefix(&turned(OUTER_PAD, &block)),
         }
     }
 
     /// The authentication code of the message that was hashed after the block of the inner pass.
-    fn code_of(&self, inner: Sha256) -> [u8; 32]
+    fn code_of(&self, inner: Sha256) -> [u8; CODE_SIZE]
         ensures { (key message : List ℕ) → IsKey self.now key → Holds256 inner (pad 0x36 key ++ message)
             → result ≡ hmac_sha256 key message }
     {
@@ -82,7 +90,7 @@ impl Key {
     }
 
     /// The authentication code of a message under the key.
-    pub fn hmac(&self, message: &[u8]) -> [u8; 32]
+    pub fn hmac(&self, message: &[u8]) -> [u8; CODE_SIZE]
         ensures { (key : List ℕ) → IsKey self.now key → result ≡ hmac_sha256 key message.now }
     {
         let mut inner = copied(&self.inner);
@@ -91,7 +99,7 @@ impl Key {
     }
 
     /// The authentication code of a message in three pieces.
-    pub fn hmac_of_three(&self, first: &[u8], second: &[u8], third: &[u8]) -> [u8; 32]
+    pub fn hmac_of_three(&self, first: &[u8], second: &[u8], third: &[u8]) -> [u8; CODE_SIZE]
         ensures { (key : List ℕ) → IsKey self.now key
             → result ≡ hmac_sha256 key (first.now ++ (second.now ++ third.now)) }
     {

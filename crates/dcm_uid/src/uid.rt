@@ -4,13 +4,25 @@ ghost use Rattle.std.specs.List.{list_all};
 ghost use Rattle.dcm_uid.specs.Hmac.{IsKey, hmac_sha256};
 ghost use Rattle.dcm_uid.specs.Uid as spec;
 
-use crate::hmac::Key;
+use crate::hmac::{CODE_SIZE, Key};
 use arrayvec::ArrayVec;
 use dcm_head::without_pads;
 use itoa::Buffer;
 
+/// The version of a UUID, 8, in the high half of byte 6 (RFC 9562 4.2).
+const VERSION: u8 = 0x80;
+
+/// The variant of a UUID, in the two high bits of byte 8 (RFC 9562 4.1).
+const VARIANT: u8 = 0x80;
+
+/// The most bytes of a UID (PS3.5 9.1).
+const MOST_OF_UID: usize = 64;
+
+/// The most bytes of a new UID: those of `2.25.`, and the digits of a number of 128 bits.
+const MOST_OF_NEW: usize = 44;
+
 /// The UUID of version 8 of a digest (RFC 9562 5.8).
-fn uuid(d: &[u8; 32]) -> [u8; 16]
+fn uuid(d: &[u8; CODE_SIZE]) -> [u8; 16]
     ensures { result ≡ spec.uuid d.now }
 {
     [
@@ -20,9 +32,9 @@ fn uuid(d: &[u8; 32]) -> [u8; 16]
         d[3],
         d[4],
         d[5],
-        d[6] % 16 + 128,
+        d[6] % 16 + VERSION,
         d[7],
-        d[8] % 64 + 128,
+        d[8] % 64 + VARIANT,
         d[9],
         d[10],
         d[11],
@@ -34,7 +46,7 @@ fn uuid(d: &[u8; 32]) -> [u8; 16]
 }
 
 /// Its number.
-fn uuid_number(d: &[u8; 32]) -> u128
+fn uuid_number(d: &[u8; CODE_SIZE]) -> u128
     ensures { result ≡ spec.uuid_number d.now }
 {
     u128::from_be_bytes(uuid(d))
@@ -52,7 +64,7 @@ fn append<const N: usize>(out: &mut ArrayVec<u8, N>, bytes: &[u8])
 }
 
 /// The new UID in place of `b` under a key: `2.25.` and the number of a UUID (PS3.5 B.2).
-pub fn new_uid(key: &Key, b: &[u8]) -> ArrayVec<u8, 44>
+pub fn new_uid(key: &Key, b: &[u8]) -> ArrayVec<u8, MOST_OF_NEW>
     ensures value { (k : List ℕ) → IsKey key.now k → result.items ≡ spec.new_uid k b.now }
     ensures short { length result.items ≤ 44 }
     ensures form { spec.IsNewUid result.items }
@@ -90,13 +102,12 @@ fn is_standard(b: &[u8]) -> bool
 fn is_one_uid(b: &[u8]) -> bool
     ensures { result ≡ spec.is_one_uid b.now }
 {
-    !b.is_empty() && b.len() <= 64 && !b.contains(&92)
+    !b.is_empty() && b.len() <= MOST_OF_UID && !b.contains(&b'\\')
 }
 
-/// What takes the place of the value of a UID under a key (PS3.15 E.1.1, action U), without padding: nothing where it
-/// is
+/// What takes the place of the value of a UID under a key (PS3.15 E.1.1, action U), without padding: nothing where it is
 /// not one UID of at most 64 bytes, itself where it is the standard's own, else a new one.
-pub fn new_value(key: &Key, value: &[u8]) -> ArrayVec<u8, 64>
+pub fn new_value(key: &Key, value: &[u8]) -> ArrayVec<u8, MOST_OF_UID>
     ensures { (k : List ℕ) → IsKey key.now k → result.items ≡ spec.new_value k value.now }
 {
     let b = without_pads(value);
