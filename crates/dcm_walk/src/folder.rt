@@ -4,7 +4,7 @@ ghost use Rattle.std.specs.Str.{IsUtf8};
 ghost use Rattle.dcm_walk.specs.Folder as spec;
 ghost use Rattle.dcm_walk.specs.Visits.{name_of};
 
-use crate::name::{LONGEST, MOST_OF_PATH, below, is_part_file, leads_below};
+use crate::name::{MOST_OF_PATH, below, is_part_file, leads_below};
 use crate::visitor::{Named, Stopped, Visitor, What};
 use dcm_files::{EntryName, Folders, Found, FoundKind, Links};
 use dcm_names::MOST_OF_NAME;
@@ -242,7 +242,7 @@ fn do_entry<S: Folders, E, V: Visitor<S, E>>(
 }
 
 /// Goes over the names in a folder that was opened at a path, and enters each folder in it. The folder itself is
-/// visited as `.` where it cannot be listed to its end.
+/// visited as `.` where it cannot be listed to its end. Fails, at once, where the visitor stops.
 pub fn walk_folder<S: Folders, E, V: Visitor<S, E>>(
     path: &[u8],
     output: FolderNumber,

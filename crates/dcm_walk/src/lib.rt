@@ -13,5 +13,5 @@ mod visitor;
 
 pub use folder::{FolderNumber, walk_folder};
 pub use list::{ListEnd, slash, walk_list};
-pub use name::{LONGEST, MOST_OF_PATH};
+pub use name::{LONGEST, MOST_OF_PATH, PART};
 pub use visitor::{Named, Stopped, Visitor, What};

@@ -136,7 +136,7 @@ fn do_line<S: Folders, E, V: Visitor<S, E>>(
 }
 
 /// Goes over the names in a list, one a line. Links are followed. What has the number of the output, and what lies in
-/// it, is told.
+/// it, is told. Fails, at once, where the visitor stops.
 pub fn walk_list<S: Folders, E, V: Visitor<S, E>>(
     output: FolderNumber,
     input: &mut Watched<S::Input>,

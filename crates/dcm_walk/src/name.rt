@@ -11,8 +11,9 @@ pub const MOST_OF_PATH: usize = 4095;
 /// The most bytes of a path that is put together: that of a folder, a slash and a name in it.
 pub const LONGEST: usize = MOST_OF_PATH + 1 + MOST_OF_ENTRY;
 
-/// What the part file of a run begins with, in capitals or not.
-const PART: &[u8] = b".part.";
+/// What the name of a part file begins with, before the number of its run. Names of inputs may not begin so, in capitals
+/// or not.
+pub const PART: &[u8] = b".part.";
 
 /// What ends a part of a name.
 const SLASH: u8 = b'/';
@@ -62,11 +63,7 @@ pub(crate) fn leads_below(relative: &[u8]) -> bool
 fn small(byte: u8) -> u8
     ensures { result ≡ spec.small byte }
 {
-    if byte.is_ascii_uppercase() {
-        byte + 32
-    } else {
-        byte
-    }
+    byte.to_ascii_lowercase()
 }
 
 /// Whether a relative name is that of the part file of a run.

@@ -62,7 +62,7 @@ pub struct Modify<A: Allocator = Global> {
 pub const MOST_OF_KEY: usize = 4096;
 
 /// The taking of identity out of a file: what more is kept, whether it is reported that pixels may show identity, and
-/// the key of new unique identifiers, which has no bytes where none is given.
+/// the key of all that is made anew, which has no bytes where none is given.
 #[derive(Debug, Drop)]
 pub struct Deidentify {
     pub options: Options,

@@ -18,6 +18,7 @@
 #![tactic(auto)]
 
 mod job;
+mod options;
 mod places;
 mod plans;
 mod texts;

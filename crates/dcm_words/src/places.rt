@@ -5,8 +5,9 @@ ghost use Rattle.dcm_words.specs.Words.{tool_of as tool_as, paths_apart};
 ghost use Rattle.dcm_words.specs.PlacesAs.{two_as};
 ghost use Rattle.dcm_words.specs.Plans.{reader, PathsAre};
 
+use crate::options::word_of;
 use crate::usage::Word;
-use crate::words::{Paths, Tool, is_path, said_by, word_of};
+use crate::words::{Paths, Tool, is_path, said_by};
 use dcm_edits::takes_next as edit_takes_next;
 
 /// The input and the output that words name.

@@ -6,7 +6,7 @@ ghost use Rattle.dcm_words.specs.Plans.{Gives, GivesDump, PathsAre, SaidAs, plan
 
 use crate::job::{Convert, Deidentify, Dump, Job, Modify, Planned};
 use crate::usage::{Choice, Usage};
-use crate::words::{Paths, STANDARD, Said, Tool, is_path, said_by};
+use crate::words::{Paths, STANDARD, Tool, is_path, said_by};
 use arrayvec::ArrayVec;
 use dcm_base::{Dictionary, WordFault};
 use dcm_edits::{EditFault, Edits, dictionary_said};
