@@ -18,4 +18,7 @@ pub mod ValidRows
 pub mod Indexed
 pub mod DecodedTexts
 pub mod AlikeForms
+pub mod FormsOfUtf8
+pub mod FirstsOfUtf8
+pub mod CellsOfUtf8
 pub mod PassedBy

@@ -102,7 +102,7 @@ front_valid (suc n) bytes = by_test (is_utf8 (take (suc n) bytes)) refl (front_v
     by_test true e h = IsUtf8-from_is_utf8 (take (suc n) bytes) e
     by_test false e h = h
 
-longest_valid : (bytes : List ℕ) → IsUtf8 (take (utf8_valid_len bytes) bytes)
+pub longest_valid : (bytes : List ℕ) → IsUtf8 (take (utf8_valid_len bytes) bytes)
 unfolding utf8_valid_len
 longest_valid bytes = front_valid (length bytes) bytes
 

@@ -94,3 +94,9 @@ Utf8AsItIs =
     (form other : TextForm) (sets : Sets) (shown : Vr) (value text : List ℕ) → IsUtf8InForce sets
     → all_scalars text ≡ true → without_pads value ≡ encode_utf8_all text
     → cell_parts form sets (whole shown value) ≡ cell_parts other sets (whole shown value)
+
+-- where UTF-8 is in force, a value of any bytes is written as without character sets
+abbrev pub Utf8AsBefore : Type 0
+Utf8AsBefore =
+    (sets : Sets) (shown : Vr) (value : List ℕ) → IsUtf8InForce sets
+    → cell_parts Decoded sets (whole shown value) ≡ cell_parts ValidUtf8 sets (whole shown value)

@@ -2,7 +2,7 @@
 ghost use Rattle.dcm_base.specs.declared.tag.Tag.{Tag};
 ghost use Rattle.dcm_stream.specs.Follows.{BarsAs};
 ghost use Rattle.dcm_table.specs.Laws.{AsciiAsBefore, MetaSetsNothing, MetaSettles, MetaSteps, RowIsValid, RowSteps};
-ghost use Rattle.dcm_table.specs.Laws.{TableBarSteps, Utf8AsItIs};
+ghost use Rattle.dcm_table.specs.Laws.{TableBarSteps, Utf8AsBefore, Utf8AsItIs};
 ghost use Rattle.dcm_table.specs.Shown.{table_bar, tabled};
 
 /// After the elements of a meta group the cells hold, of each column, the first of its tag. These elements set nothing.
@@ -38,7 +38,8 @@ pub fn ascii_as_before()
     ensures { AsciiAsBefore }
 {}
 
-/// Where UTF-8 is in force, so is a value in UTF-8.
+/// Where UTF-8 is in force, a text is written as without character sets, also where bytes of it are no UTF-8.
 pub fn utf8_as_it_is()
-    ensures { Utf8AsItIs }
+    ensures valid { Utf8AsItIs }
+    ensures any { Utf8AsBefore }
 {}
