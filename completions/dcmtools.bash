@@ -133,10 +133,10 @@ _dcmtools() {
         dcmdeid+rm) _dcmtools_words 'key' "$current"; return ;;
         dcm2csv-k) _dcmtools_words "$(_dcmtools_standard vc "$values")" "$current"; return ;;
         dcmconv+part | dcmodify+part | dcmdeid+part) return ;;
-        dcm2csv@ | dcmconv@ | dcmodify@ | dcmdeid@) current=@$current ;; # a word is cut at `@`, and what is offered replaces both parts
+        dcmdump@ | dcm2csv@ | dcmconv@ | dcmodify@ | dcmdeid@) current=@$current ;; # a word is cut at `@`, and what is offered replaces both parts
         dcmodify-ea) _dcmtools_words "$values $sequences" "$current"; return ;;
     esac
-    if [[ ${COMP_WORDS[1]} =~ ^(dcm2csv|dcmconv|dcmodify|dcmdeid)$ && $current == @* ]]; then
+    if [[ ${COMP_WORDS[1]} =~ ^(dcmdump|dcm2csv|dcmconv|dcmodify|dcmdeid)$ && $current == @* ]]; then
         _dcmtools_lists "$current"
         return
     fi

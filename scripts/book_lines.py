@@ -21,8 +21,15 @@ PAGE = ROOT / "docs/auditors/DEFINITIONS.md"
 BEGIN = "<!-- lines: written by scripts/book_lines.py -->"
 END = "<!-- end of lines -->"
 
-# the job that the words of a tool mean, by its name in dcm_words/specs/Words.antt
-JOBS = {"dcmdump": "dump", "dcmconv": "convert", "dump2dcm": "build", "dcmodify": "modify", "dcmdeid": "deidentify", "dcm2csv": "table"}
+# the jobs that the words of a tool mean, by their names in dcm_words/specs/Words.antt; dcm2csv has none
+JOBS = {
+    "dcmdump": {"dump", "dump_decoded"},
+    "dcmconv": {"convert"},
+    "dump2dcm": {"build"},
+    "dcmodify": {"modify"},
+    "dcmdeid": {"deidentify"},
+    "dcm2csv": set(),
+}
 
 # what a tool promises, each part without what an earlier one has
 PARTS = [
@@ -34,6 +41,10 @@ PARTS = [
 
 # what one tool's words may ask for besides a job
 MORE = {"dcmdump": ["dcm_dumps.Words.asks_dumps", "dcm_dumps.DumpsProgram.ObeysDumps"]}
+
+# runs over trees, and the tools that do them
+TREES = ["dcm_tree_words.Trees.meant_tree", "dcm_trees.Program.ObeysTree"]
+OF_TREES = ["dcmconv", "dcmodify", "dcmdeid"]
 
 # dcm2csv has no job: its rows, how far a file is read, what is done with it, and the words
 TABLE_PARTS = [
@@ -214,20 +225,22 @@ def job_in(file: str, word: str):
 
 
 def cases_of(tool: str, definition: Definition) -> list:
-    """The cases without those of other tools' jobs, and up to the one that is every job of this tool."""
-    kept = []
+    """The cases without those of other tools' jobs, and up to the last that is each job of this tool, whatever is in it."""
+    kept, whole = [], set()
     for case in definition.cases:
         owner = OWN_CASES.get((definition.file, definition.name, case[0]))
         left = " ".join(case).partition(" = ")[0]
         words = WORD.findall(left)[1:]
         jobs = {job_in(definition.file, word) for word in words} - {None}
-        if owner not in (None, tool) or jobs - {tool, JOBS[tool]}:
+        if owner not in (None, tool) or jobs - {tool} - JOBS[tool]:
             continue
         kept.append(case)
         plain = [word for word in words if word[0].islower() or word == "_"]
         forms = [word for word in plain if resolve(definition.file, word)[1]]
         if jobs and len(plain) == len(words) and len(forms) == 1:
-            break
+            whole |= jobs
+            if not JOBS[tool] - whole:
+                break
     return kept
 
 
@@ -258,6 +271,13 @@ def parts_of(tool: str) -> list:
     return parts
 
 
+def trees_of(tool: str) -> dict:
+    """The definitions that runs over trees take besides those of the tool, with their lines."""
+    if tool not in OF_TREES:
+        return {}
+    return reached(tool, TREES, {key for part in parts_of(tool) for key in part})
+
+
 def counted(lines: dict, names: set) -> str:
     return f"{sum(count for key, count in lines.items() if key in names):,}"
 
@@ -270,7 +290,10 @@ def table() -> str:
     for tool, (answer, *others) in parts.items():
         cells = [counted(answer, common), counted(answer, set(answer) - common), *(counted(part, set(part)) for part in others)]
         rows.append(f"| {tool} | {' | '.join(cells)} | {sum(sum(part.values()) for part in parts[tool]):,} |")
-    everything = {key for tool in JOBS for part in parts[tool] for key in part}
+    trees = {tool: trees_of(tool) for tool in OF_TREES}
+    more = ", ".join(f"{tool} {sum(lines.values()):,}" for tool, lines in trees.items())
+    rows.append(f"\nRuns over trees (`+r`) take so many lines more: {more}.")
+    everything = {key for tool in JOBS for part in [*parts[tool], trees.get(tool, {})] for key in part}
     chosen = [book().definitions[file][name] for file, name in everything]
     lines = sum(len(chunk.head) + sum(map(len, chunk.cases)) for chunk in chosen)
     files = len({file for file, _ in everything})
@@ -294,7 +317,7 @@ def with_table(page: str) -> str:
 def unnamed_files(page: str) -> list:
     """The files that a promise is made of and the table of DEFINITIONS lacks."""
     named = page.split("## The files that are to be believed")[1].split("### For one tool alone")[0]
-    files = {file for tool in JOBS for part in parts_of(tool) for file, _ in part}
+    files = {file for tool in JOBS for part in [*parts_of(tool), trees_of(tool)] for file, _ in part}
     return sorted(file for file in files if f"`{file.rsplit('.', 1)[1]}`" not in named)
 
 

@@ -29,9 +29,8 @@ ON_THE_WAY = {
     "dcm_editor": "edits_are_few edits_fit edit_steps bar_steps reads_ascend recode_anew edit_reads edits_are_apart",
     "dcm_editor_laws": """edited_reads edited_ascends edited_is_bytes erased_all_is_gone erased_private_is_gone modified_all_is_so
         others_stay others_stay_written edited_reads_by opens_alike edited_for_others erased_for_all edited_twice edited_again""",
-    "dcm_text": "pieces_do_not_matter each_set_is_kept one_to_one",
-    "dcm_dates": "dates_are_numbers dates_are_moved intervals_are_kept moves_add_up",
-    "dcm_uid": "new_uids_are_uids pseudonyms_agree messages_differ one_patient_one_move",
+    "dcm_text": "pieces_do_not_matter each_set_is_kept",
+    "dcm_uid": "new_uids_are_uids one_patient_one_move",
     "dcm_deid": """nothing_flows taken_is_gone actions_ascend bar_steps deidentify_steps pixel_steps nothing_flows_out only_said_is_put pairs_are_alike
         what_stays_is_known uids_agree""",
     "dcm_deid_laws": "deidentified_reads written_is_clean deidentified_twice there_and_back",

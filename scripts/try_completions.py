@@ -45,6 +45,7 @@ CASES = [
     ("a tool", "dcmtools dcmc", "dcmtools dcmconv "),
     ("a file", "dcmtools dcmdump sc", "dcmtools dcmdump scan.dcm "),
     ("a list", "dcmtools dcm2csv -k Rows @li", "dcmtools dcm2csv -k Rows @list.txt "),
+    ("a list of files to dump", "dcmtools dcmdump @li", "dcmtools dcmdump @list.txt "),
     ("a list in a folder", "dcmtools dcm2csv @folder/in", "dcmtools dcm2csv @folder/inner.txt "),
     ("a folder of lists", "dcmtools dcm2csv @fol", "dcmtools dcm2csv @folder/"),
     ("a list of files to convert", "dcmtools dcmconv +r @li", "dcmtools dcmconv +r @list.txt "),
