@@ -1,4 +1,4 @@
-// The key of new unique identifiers.
+// The key of all that dcmdeid makes anew.
 ghost use Rattle.std.specs.IoError.{error_kind};
 ghost use Rattle.dcm_cli.specs.Keys as spec;
 
@@ -69,7 +69,8 @@ fn no_key(e: &io::Error) -> NoKey
     }
 }
 
-/// Opens the file of a key, reads it, and gives it back.
+/// Opens the file of a key, reads it, and gives it back. Fails where the file cannot be opened or read, or has fewer
+/// bytes than 16 or more than 4,096.
 pub fn take_key<S: System>(system: &mut S, path: &[u8]) -> Result<KeyRead, NoKey>
     ensures { spec.TakesKey S.may_do S.Input.DeviceIn path.now system.old result system.new }
 {

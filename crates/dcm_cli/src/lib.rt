@@ -3,7 +3,8 @@
 //! - `run::run` does a job: it reads its input in pieces of at most 262,144 bytes, writes its output as it goes,
 //!   reports what is wrong, and answers how it ended. Its contract is the theorem of the whole.
 //! - `dump_with` of `dump` shows one input after another, for who shows several.
-//! - `dump`, `convert`, `modify` and `build` are the work on the four kinds of jobs, by `head`, `pass` and `rewrite`.
+//! - `dump`, `convert`, `build`, `modify` and `deidentify` are the work on the five kinds of jobs, by `head`, `pass` and
+//!   `rewrite`.
 //! - `tell`, `tell_open`, `tell_unopened` and `tell_no_key` report words that are refused, and files and keys that
 //!   cannot be opened; `status` has the exit statuses.
 //! - `take_key` of `key` reads a key, and `first_reading` of `first` a file as far as its patient.
@@ -34,7 +35,7 @@ pub mod first;
 pub mod head;
 /// Runs over memory.
 pub mod in_memory;
-/// The key of new unique identifiers.
+/// The key of all that dcmdeid makes anew.
 pub mod key;
 /// Laws of the definitions.
 pub mod laws;

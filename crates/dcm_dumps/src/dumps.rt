@@ -161,7 +161,8 @@ impl<I: DeviceIn, W: DeviceOut> FileWork<I, W> for DumpWork {
     }
 }
 
-/// Writes the headings and dumps of all names. The output is on this. Answers the greatest status.
+/// Writes the headings and dumps of all names. The output is on this. Answers the greatest status. Fails where the output
+/// fails; nothing more is opened then.
 pub fn show_dumps<S: System, W: DeviceOut, E: DeviceOut>(
     plan: DumpsPlan,
     output: FileKind,

@@ -27,7 +27,7 @@ fn compose(parts: &[&[u8]]) -> ArrayVec<u8, LONGEST>
     line
 }
 
-/// Writes the parts of a line by one write.
+/// Writes the parts of a line by one write. Fails where the writer fails.
 pub fn put_at_once<E: DeviceOut>(
     parts: &[&[u8]],
     errors: &mut Watched<E>,
@@ -61,7 +61,8 @@ fn put_named<E: DeviceOut>(
     put_all(errors, line.as_slice())
 }
 
-/// Writes a line that names no file: a refusal of words by its number, where it is, and its words.
+/// Writes a line that names no file: a refusal of words by its number, where it is, and its words. Fails where the
+/// writer fails.
 pub fn put_refusal<E: DeviceOut>(
     number: &str,
     place: &[&[u8]],
@@ -84,7 +85,7 @@ pub fn put_refusal<E: DeviceOut>(
     put_all(errors, line.as_slice())
 }
 
-/// Reports what a text says of a name.
+/// Reports what a text says of a name. Fails where the writer fails.
 pub fn put_text<E: DeviceOut>(
     name: &[u8],
     text: &[u8],
@@ -96,7 +97,7 @@ pub fn put_text<E: DeviceOut>(
     put_named(name, &[text], errors)
 }
 
-/// Reports that a file cannot be opened.
+/// Reports that a file cannot be opened. Fails where the writer fails.
 pub fn put_unopened<E: DeviceOut>(name: &[u8], errors: &mut Watched<E>) -> Result<(), WriteFailed>
     ensures { Wrote E.DeviceOut errors.old errors.new (spec.unopened_line name.now) result }
 {
@@ -114,7 +115,7 @@ fn clash_text(cause: Unopened) -> &'static [u8]
     }
 }
 
-/// Reports that a file is the output, or may be.
+/// Reports that a file is the output, or may be. Fails where the writer fails.
 pub fn put_clash<E: DeviceOut>(
     name: &[u8],
     cause: Unopened,
@@ -125,7 +126,7 @@ pub fn put_clash<E: DeviceOut>(
     put_named(name, &[clash_text(cause)], errors)
 }
 
-/// Reports that reading a file failed after so many bytes.
+/// Reports that reading a file failed after so many bytes. Fails where the writer fails.
 pub fn put_unread<E: DeviceOut>(
     name: &[u8],
     read: u64,
@@ -142,7 +143,7 @@ pub fn put_unread<E: DeviceOut>(
     put_named(name, &text, errors)
 }
 
-/// Reports a fault of a file.
+/// Reports a fault of a file. Fails where the writer fails.
 pub fn put_fault<E: DeviceOut>(
     name: &[u8],
     stop: Stop,
@@ -161,7 +162,7 @@ pub fn put_fault<E: DeviceOut>(
     put_named(name, &text, errors)
 }
 
-/// Reports that a value of a file is too long for a cell.
+/// Reports that a value of a file is too long for a cell. Fails where the writer fails.
 pub fn put_too_long<E: DeviceOut>(
     name: &[u8],
     tag: Tag,
@@ -178,7 +179,7 @@ pub fn put_too_long<E: DeviceOut>(
     put_named(name, &text, errors)
 }
 
-/// Reports that an edit, counted from 1, found no place in a file.
+/// Reports that an edit, counted from 1, found no place in a file. Fails where the writer fails.
 pub fn put_unplaced<E: DeviceOut>(
     name: &[u8],
     edit: usize,

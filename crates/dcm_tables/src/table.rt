@@ -48,7 +48,8 @@ fn put_header_where<W: DeviceOut>(
     put_header(columns, out)
 }
 
-/// Writes the header, where there is one, and the rows of all names. Answers the greatest status.
+/// Writes the header, where there is one, and the rows of all names. Answers the greatest status. Fails where the output
+/// fails; nothing more is opened then.
 pub fn write_table<S: System, W: DeviceOut, E: DeviceOut>(
     shared: &Shared,
     has_header: bool,
