@@ -17,6 +17,8 @@ pub struct TreeDevices {
     pub disk: usize,
     /// How many files are made before another process makes one at the path of the next.
     pub files: usize,
+    /// How many files are made before there is no memory for another.
+    pub memory: usize,
     /// The bits that modes of new files do not get.
     pub umask: u32,
     /// Whether a file may get a second name.
@@ -33,6 +35,7 @@ pub const SOUND: TreeDevices = TreeDevices {
     room: ALL,
     disk: ALL,
     files: ALL,
+    memory: ALL,
     umask: 0o022,
     has_links: true,
     locked: "",

@@ -171,6 +171,15 @@ impl MemoryTree {
         Ok(())
     }
 
+    /// Counts a file that is to be made, for which there has to be memory.
+    fn take_memory(&mut self) -> io::Result<()> {
+        if self.devices.memory == 0 {
+            return Err(io::Error::from(ErrorKind::OutOfMemory));
+        }
+        self.devices.memory -= 1;
+        Ok(())
+    }
+
     /// The number of a file, where no folder is there.
     fn file_number(&self, path: &str) -> io::Result<usize> {
         let number = self.number(path, Links::Kept)?;
@@ -342,6 +351,7 @@ impl Folders for MemoryTree {
     }
 
     fn create_as(&mut self, path: &str, mode: u32) -> io::Result<Opened<Std<TreeWriter>>> {
+        self.take_memory()?;
         self.intrude(path)?;
         let place = self.free_place(path)?;
         self.make_file(place, mode)

@@ -25,7 +25,7 @@ use Rattle.dcm_trees.specs.declared.fate.Fate.TheVariants as fates
 use Rattle.dcm_trees.specs.declared.file.Done.{Done}
 use Rattle.dcm_trees.specs.declared.part.Naming.{Naming}
 use Rattle.dcm_trees.specs.declared.part.NoPart.{NoPart}
-use Rattle.dcm_trees.specs.declared.part.PartThere.{PartThere}
+use Rattle.dcm_trees.specs.declared.progress.Stop.{Stop as RunStop}
 use Rattle.dcm_trees.specs.declared.task.NoDays.{NoDays}
 use Rattle.dcm_trees.specs.declared.task.NoDays.TheVariants as no_days
 use Rattle.dcm_trees.specs.Fate.{is_written}
@@ -204,7 +204,7 @@ no_kind g a b = absurd (cc)
 file_no_other : {I O : Type 0} (h : Host I O) (t : Tree) (path : List ℕ) → (x : IsFileAt h t path) → (f : Found) → at_path h t path ≡ Some f → f.kind ≢ kinds.Other
 file_no_other h t path x f at other = no_kind f (subst (λ (y : Found). y.kind ≡ kinds.File) (found_same (at_path h t path) x.found f x.is at) x.kind) other
 
-same_done : (result : Result Done PartThere) (one other : Done) → result ≡ Ok one → result ≡ Ok other → one ≡ other
+same_done : (result : Result Done RunStop) (one other : Done) → result ≡ Ok one → result ≡ Ok other → one ≡ other
 same_done result one other a b = cc
 
 no_output : {A O : Type 0} (cause : NoPart) (output : O) → Err cause ≡ Ok output → A
@@ -333,7 +333,7 @@ module _ {I O E : Type 0} (F : Type 0) (h : Host I O) (r : Reader I) (w : Writer
             (subst (λ (x : Fate). NamesAs h m.output m.part held x filled done.fate after) fate (named name held (ending_fate ending) told filled done to after fits (at_part mode held before filled x full) gone names));
       }
 
-  by_instance : (job : Job) (n : Named) (mode : ℕ) (held : List ℕ) (verdict : Verdict) (from : E) (s : FileSystem) (result : Result Done PartThere) (done : Done) (to : E) (after : FileSystem) → length held ≤ INPUT_LIMIT → Before s → IsUtf8 n.path → (f : FileAt h Followed s.now n.path)
+  by_instance : (job : Job) (n : Named) (mode : ℕ) (held : List ℕ) (verdict : Verdict) (from : E) (s : FileSystem) (result : Result Done RunStop) (done : Done) (to : E) (after : FileSystem) → length held ≤ INPUT_LIMIT → Before s → IsUtf8 n.path → (f : FileAt h Followed s.now n.path)
       → IsJobOf m.task (s.now.bytes (number_of f.file)) job → ComesTo m.task (s.now.bytes (number_of f.file)) held verdict → after.unremoved ≡ false → result ≡ Ok done → DoesByInstance (working {F = F} h r w e) job m n mode from s result to after
       → DoneAs h m.output m.part mode held (verdict_fate verdict) s done.fate after
   by_instance job n mode held verdict from s result done to after fits x has f of_job comes gone ok (instance.not_opened opens told is) = not_unopened h r w n.path s after has f opens
@@ -350,7 +350,7 @@ module _ {I O E : Type 0} (F : Type 0) (h : Host I O) (r : Reader I) (w : Writer
       (subst (λ (d : Done). DoneAs h m.output m.part mode held (verdict_fate verdict) opened d.fate after) one
       (fills job n.name mode input output (s.now.bytes (number_of f.file)) held verdict from opened made became to after fits here part.makes (ap h.took (looking.same_ok (Ok output) part.output output part.is refl) ∙ part.new) o.sound o.holds of_job comes gone fill))
 
-  by_end : (n : Named) (mode : ℕ) (end : FileEnd) (from : E) (s : FileSystem) (result : Result Done PartThere) (done : Done) (to : E) (after : FileSystem) → ((held : List ℕ) (verdict : Verdict) → end ≡ was_done held verdict → length held ≤ INPUT_LIMIT) → Before s → IsUtf8 n.path
+  by_end : (n : Named) (mode : ℕ) (end : FileEnd) (from : E) (s : FileSystem) (result : Result Done RunStop) (done : Done) (to : E) (after : FileSystem) → ((held : List ℕ) (verdict : Verdict) → end ≡ was_done held verdict → length held ≤ INPUT_LIMIT) → Before s → IsUtf8 n.path
       → (f : FileAt h Followed s.now n.path) → EndsAs m.task (s.now.bytes (number_of f.file)) end → after.unremoved ≡ false → result ≡ Ok done → DoesUnnamed (working {F = F} h r w e) m n mode from s result to after → Becomes h m.output m.part mode s done.fate after end
   by_end n mode end from s result done to after fits x has f (by_job held verdict comes is) gone ok (instance.no_days cause finds told at) =
       not_job m.task (s.now.bytes (number_of f.file)) cause comes.job comes.is_job (job_found h r w all m.task n.path s (Err cause) after has f finds)
@@ -367,7 +367,7 @@ module _ {I O E : Type 0} (F : Type 0) (h : Host I O) (r : Reader I) (w : Writer
   by_end n mode end from s result done to after fits x has f (by_days_of stop none is) gone ok (instance.has_job job mid finds does) =
       has_days m.task (s.now.bytes (number_of f.file)) job stop (job_found h r w all m.task n.path s (Ok job) mid has f finds) none
 
-  by_file : (n : Named) (mode : ℕ) (end : FileEnd) (from : E) (s : FileSystem) (result : Result Done PartThere) (done : Done) (to : E) (after : FileSystem) → ((held : List ℕ) (verdict : Verdict) → end ≡ was_done held verdict → length held ≤ INPUT_LIMIT) → Before s → m.keeps_names ≡ false
+  by_file : (n : Named) (mode : ℕ) (end : FileEnd) (from : E) (s : FileSystem) (result : Result Done RunStop) (done : Done) (to : E) (after : FileSystem) → ((held : List ℕ) (verdict : Verdict) → end ≡ was_done held verdict → length held ≤ INPUT_LIMIT) → Before s → m.keeps_names ≡ false
       → is_media_index n.relative ≡ false → IsUtf8 n.path → (f : FileAt h Followed s.now n.path) → EndsAs m.task (s.now.bytes (number_of f.file)) end → after.unremoved ≡ false → result ≡ Ok done → DoesFile (working {F = F} h r w e) m n mode from s result to after → Becomes h m.output m.part mode s done.fate after end
   by_file n mode end from s result done to after fits x by no_index has f ends gone ok (files.an_index index told is same) = true_false (is_media_index n.relative) index no_index
   by_file n mode end from s result done to after fits x by no_index has f ends gone ok (files.keeps_name became index kept does is) = true_false m.keeps_names kept by

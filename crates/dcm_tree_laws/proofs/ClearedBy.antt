@@ -11,7 +11,7 @@ use Rattle.dcm_words.specs.Words.{Job}
 use Rattle.dcm_cli.specs.Calls.{Reader}
 use Rattle.dcm_trees.specs.declared.fate.Fate.{Fate}
 use Rattle.dcm_trees.specs.declared.file.Done.{Done}
-use Rattle.dcm_trees.specs.declared.part.PartThere.{PartThere}
+use Rattle.dcm_trees.specs.declared.progress.Stop.{Stop as RunStop}
 use Rattle.dcm_trees.specs.File as spec
 use Rattle.dcm_trees.specs.File.{DoesReady, DoesFree, DoesPlaced, DoesNamed, DoesFile, DoesName}
 use Rattle.dcm_trees.specs.Instance as instance
@@ -64,7 +64,8 @@ made_part : {I O F : Type 0} (h : Host I O) (part : List ℕ) (mode : ℕ) (befo
 made_part h part mode before o after (part_spec.no_text t is same) = absurd (cc)
 made_part h part mode before o after (part_spec.made opened t call is) = record { text = t; nothing = call.0.nothing; mono = λ none. sym call.0.notes.unremoved_is ∙ none }
 made_part h part mode before o after (part_spec.is_there e t call k is) = absurd (cc)
-made_part h part mode before o after (part_spec.not_made e t call k is) = absurd (cc)
+made_part h part mode before o after (part_spec.no_memory e t call k is) = absurd (cc)
+made_part h part mode before o after (part_spec.not_made e t call k m is) = absurd (cc)
 
 -- ---- a file whose output has its name
 
@@ -84,7 +85,7 @@ filled_gone {I} {O} {F} h r w e job m name path relative is text bits input outp
     (output_gone {I = I} {F = F} h r w e m name path relative (h.took fills.written) is text (ending_fate ending) told start was_filled fate to after (is_ready (h.took fills.written) (more i steps)) names)
 
 ready_leaves : {I O F E : Type 0} (h : Host I O) (r : Reader I) (w : Writer O) (e : Writer E) (job : Job) (m : Manner) (n : Named) (mode : ℕ) (path relative : List ℕ) → path ≡ below m.output relative
-    → (from : E) (start before : FileSystem) (result : Result Fate PartThere) (to : E) (after : FileSystem) → IsIdle h (IsOutput h r w) m.part m.output idle start before → DoesReady (over {F = F} h r w e) job m n mode path from before result to after
+    → (from : E) (start before : FileSystem) (result : Result Fate RunStop) (to : E) (after : FileSystem) → IsIdle h (IsOutput h r w) m.part m.output idle start before → DoesReady (over {F = F} h r w e) job m n mode path from before result to after
     → LeavesPart h m.part before after
 ready_leaves {I} h r w e job m n mode path relative is from start before result to after i (spec.not_opened opens told f) = still_leaves h m.part before after (opens_file {I = I} h n.path before None after opens)
 ready_leaves {I} {O} {F} h r w e job m n mode path relative is from start before result to after i (spec.no_part input cause opened tried opens makes back tells) =
@@ -99,7 +100,7 @@ ready_leaves {I} {O} {F} h r w e job m n mode path relative is from start before
     (more (more i (quiet same)) (part_is_made {F = F} h (IsOutput h r w) m.part m.output mode opened output made makes)) fills)))
 
 free_leaves : {I O F E : Type 0} (h : Host I O) (r : Reader I) (w : Writer O) (e : Writer E) (m : Manner) (n : Named) (mode : ℕ) (path relative : List ℕ) → path ≡ below m.output relative
-    → (from : E) (start before : FileSystem) (result : Result Fate PartThere) (to : E) (after : FileSystem) → IsIdle h (IsOutput h r w) m.part m.output idle start before → DoesFree (over {F = F} h r w e) m n mode path from before result to after
+    → (from : E) (start before : FileSystem) (result : Result Fate RunStop) (to : E) (after : FileSystem) → IsIdle h (IsOutput h r w) m.part m.output idle start before → DoesFree (over {F = F} h r w e) m n mode path from before result to after
     → LeavesPart h m.part before after
 free_leaves h r w e m n mode path relative is from start before result to after i (spec.no_days cause f told c) = still_leaves h m.part before after (finds_job h r m.task n.path before (Err cause) after f)
 free_leaves {I} {O} {F} h r w e m n mode path relative is from start before result to after i (spec.has_job job mid f does) =
@@ -107,7 +108,7 @@ free_leaves {I} {O} {F} h r w e m n mode path relative is from start before resu
     then_leaves h m.part before mid after (still_leaves h m.part before mid same) (ready_leaves {F = F} h r w e job m n mode path relative is from start mid result to after (more i (quiet same)) does)
 
 placed_leaves : {I O F E : Type 0} (h : Host I O) (r : Reader I) (w : Writer O) (e : Writer E) (m : Manner) (n : Named) (mode : ℕ) (path relative : List ℕ) → path ≡ below m.output relative
-    → (from : E) (start before : FileSystem) (result : Result Fate PartThere) (to : E) (after : FileSystem) → IsIdle h (IsOutput h r w) m.part m.output idle start before → DoesPlaced (over {F = F} h r w e) m n mode path from before result to after
+    → (from : E) (start before : FileSystem) (result : Result Fate RunStop) (to : E) (after : FileSystem) → IsIdle h (IsOutput h r w) m.part m.output idle start before → DoesPlaced (over {F = F} h r w e) m n mode path from before result to after
     → LeavesPart h m.part before after
 placed_leaves {I} {O} {F} h r w e m n mode path relative is from start before result to after i (spec.not_free place f nf told c) =
     still_leaves h m.part before after (finds (folders_do {F = F} h) (are_quiet h) path (length m.output + 1) before place after f)
@@ -115,7 +116,7 @@ placed_leaves {I} {O} {F} h r w e m n mode path relative is from start before re
     let same : looked ≡ before = finds (folders_do {F = F} h) (are_quiet h) path (length m.output + 1) before place looked f in
     then_leaves h m.part before looked after (still_leaves h m.part before looked same) (free_leaves {F = F} h r w e m n mode path relative is from start looked result to after (more i (quiet same)) does)
 
-named_leaves : {I O F E : Type 0} (h : Host I O) (r : Reader I) (w : Writer O) (e : Writer E) (m : Manner) (n : Named) (mode : ℕ) (from : E) (start before : FileSystem) (result : Result Fate PartThere) (to : E) (after : FileSystem)
+named_leaves : {I O F E : Type 0} (h : Host I O) (r : Reader I) (w : Writer O) (e : Writer E) (m : Manner) (n : Named) (mode : ℕ) (from : E) (start before : FileSystem) (result : Result Fate RunStop) (to : E) (after : FileSystem)
     → IsIdle h (IsOutput h r w) m.part m.output idle start before → DoesNamed (over {F = F} h r w e) m n mode from before result to after → LeavesPart h m.part before after
 named_leaves h r w e m n mode from start before result to after i (spec.too_long none told f same) = still_leaves h m.part before after same
 named_leaves {I} {O} {F} h r w e m n mode from start before result to after i (spec.placed path is does) =
@@ -161,7 +162,7 @@ by_instance_gone {I} {O} {F} h r w e job m name text bits input output new from 
     then_gone h m.part before was_filled after (steps_mono steps)
     (part_gone {F = F} h r w e m name (h.took fills.written) text (ending_fate ending) told start was_filled done to after (is_ready (h.took fills.written) (more i steps)) names)
 
-instance_leaves : {I O F E : Type 0} (h : Host I O) (r : Reader I) (w : Writer O) (e : Writer E) (job : Job) (m : Manner) (n : Named) (mode : ℕ) (from : E) (start before : FileSystem) (result : Result Done PartThere) (to : E) (after : FileSystem)
+instance_leaves : {I O F E : Type 0} (h : Host I O) (r : Reader I) (w : Writer O) (e : Writer E) (job : Job) (m : Manner) (n : Named) (mode : ℕ) (from : E) (start before : FileSystem) (result : Result Done RunStop) (to : E) (after : FileSystem)
     → IsIdle h (IsOutput h r w) m.part m.output idle start before → DoesByInstance (over {F = F} h r w e) job m n mode from before result to after → LeavesPart h m.part before after
 instance_leaves {I} h r w e job m n mode from start before result to after i (instance.not_opened opens told is) = still_leaves h m.part before after (opens_file {I = I} h n.path before None after opens)
 instance_leaves {I} {O} {F} h r w e job m n mode from start before result to after i (instance.no_part input cause opened tried opens makes back ends) =
@@ -175,7 +176,7 @@ instance_leaves {I} {O} {F} h r w e job m n mode from start before result to aft
     (by_instance_gone {F = F} h r w e job m n.name part.text mode input output (part_is_new {F = F} h m.part mode opened output made makes) from start made became to after
     (more (more i (quiet same)) (part_is_made {F = F} h (IsOutput h r w) m.part m.output mode opened output made makes)) fills)))
 
-unnamed_leaves : {I O F E : Type 0} (h : Host I O) (r : Reader I) (w : Writer O) (e : Writer E) (m : Manner) (n : Named) (mode : ℕ) (from : E) (start before : FileSystem) (result : Result Done PartThere) (to : E) (after : FileSystem)
+unnamed_leaves : {I O F E : Type 0} (h : Host I O) (r : Reader I) (w : Writer O) (e : Writer E) (m : Manner) (n : Named) (mode : ℕ) (from : E) (start before : FileSystem) (result : Result Done RunStop) (to : E) (after : FileSystem)
     → IsIdle h (IsOutput h r w) m.part m.output idle start before → DoesUnnamed (over {F = F} h r w e) m n mode from before result to after → LeavesPart h m.part before after
 unnamed_leaves h r w e m n mode from start before result to after i (instance.no_days cause f told is) = still_leaves h m.part before after (finds_job h r m.task n.path before (Err cause) after f)
 unnamed_leaves {I} {O} {F} h r w e m n mode from start before result to after i (instance.has_job job mid f does) =
@@ -184,13 +185,13 @@ unnamed_leaves {I} {O} {F} h r w e m n mode from start before result to after i 
 
 -- ---- each name
 
-file_leaves : {I O F E : Type 0} (h : Host I O) (r : Reader I) (w : Writer O) (e : Writer E) (m : Manner) (n : Named) (mode : ℕ) (from : E) (start before : FileSystem) (result : Result Done PartThere) (to : E) (after : FileSystem)
+file_leaves : {I O F E : Type 0} (h : Host I O) (r : Reader I) (w : Writer O) (e : Writer E) (m : Manner) (n : Named) (mode : ℕ) (from : E) (start before : FileSystem) (result : Result Done RunStop) (to : E) (after : FileSystem)
     → IsIdle h (IsOutput h r w) m.part m.output idle start before → DoesFile (over {F = F} h r w e) m n mode from before result to after → LeavesPart h m.part before after
 file_leaves h r w e m n mode from start before result to after i (spec.an_index index told is same) = still_leaves h m.part before after same
 file_leaves {I} {O} {F} h r w e m n mode from start before result to after i (spec.keeps_name became index keeps does is) = named_leaves {F = F} h r w e m n mode from start before became to after i does
 file_leaves {I} {O} {F} h r w e m n mode from start before result to after i (spec.by_instance index keeps does) = unnamed_leaves {F = F} h r w e m n mode from start before result to after i does
 
-pub name_leaves : {I O F E : Type 0} (h : Host I O) (r : Reader I) (w : Writer O) (e : Writer E) (m : Manner) (n : Named) (what : What) (from : E) (start before : FileSystem) (result : Result Done PartThere) (to : E) (after : FileSystem)
+pub name_leaves : {I O F E : Type 0} (h : Host I O) (r : Reader I) (w : Writer O) (e : Writer E) (m : Manner) (n : Named) (what : What) (from : E) (start before : FileSystem) (result : Result Done RunStop) (to : E) (after : FileSystem)
     → IsIdle h (IsOutput h r w) m.part m.output idle start before → DoesName (over {F = F} h r w e) m n what from before result to after → LeavesPart h m.part before after
 name_leaves {I} {O} {F} h r w e m n what from start before result to after i (spec.a_file mode is does) = file_leaves {F = F} h r w e m n mode from start before result to after i does
 name_leaves h r w e m n what from start before result to after i (spec.no_file other told is same) = still_leaves h m.part before after same

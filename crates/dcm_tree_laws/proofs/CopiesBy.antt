@@ -15,7 +15,7 @@ use Rattle.dcm_cli.specs.Calls.{Reader}
 use Rattle.dcm_trees.specs.declared.fate.Fate.{Fate}
 use Rattle.dcm_trees.specs.declared.fate.Fate.TheVariants as fates
 use Rattle.dcm_trees.specs.declared.file.Done.{Done}
-use Rattle.dcm_trees.specs.declared.part.PartThere.{PartThere}
+use Rattle.dcm_trees.specs.declared.progress.Stop.{Stop as RunStop}
 use Rattle.dcm_trees.specs.declared.progress.Shared.{Shared}
 use Rattle.dcm_trees.specs.declared.progress.Stop.{Stop}
 use Rattle.dcm_trees.specs.declared.progress.Work.{Work}
@@ -117,7 +117,7 @@ record Known {I O : Type 0} (h : Host I O) (w : Writer O) (k : Manner) (start s 
   fits : FilesFit start
   still : Still h k.part start s
 
-done_again : {I O F E : Type 0} (h : Host I O) (r : Reader I) (w : Writer O) (e : Writer E) (k : Manner) (n : Named) (mode : ℕ) (uids : Uids) (start : Tree) (from : E) (before : FileSystem) (result : Result Done PartThere) (to : E) (after : FileSystem) → Known h w k start before.now
+done_again : {I O F E : Type 0} (h : Host I O) (r : Reader I) (w : Writer O) (e : Writer E) (k : Manner) (n : Named) (mode : ℕ) (uids : Uids) (start : Tree) (from : E) (before : FileSystem) (result : Result Done RunStop) (to : E) (after : FileSystem) → Known h w k start before.now
     → at_path h before.now k.part ≡ None → is_media_index n.relative ≡ false → (c : HasCopy h k.task k.output start n.path uids) → DoesName (working {F = F} h r w e) k n (File mode) from before result to after → after.unremoved ≡ false → IsDoneAgain e n uids c.verdict from before result to after
 done_again {I} {O} {F} h r w e k n mode uids start from before result to after x none no_index c does gone =
     copy_again {F = F} h r w e k n mode uids from before result to after x.tells x.by no_index none (copy_stays h k.task k.part k.output n.path uids start before.now x.none x.still c)
@@ -171,14 +171,14 @@ nameless_row n done first fate is was not =
     record { output_is = ap (output_of n) same; word_is = ap (λ (d : Done). word d.fate) same }
 
 -- what becomes of a name of which something stands
-pub record StandsAgain (n : Named) (first : Done) (before : FileSystem) (result : Result Done PartThere) (after : FileSystem) : Type 0 where
+pub record StandsAgain (n : Named) (first : Done) (before : FileSystem) (result : Result Done RunStop) (after : FileSystem) : Type 0 where
   pub same : IsAsItWas before.now after.now
   pub row : (done : Done) → result ≡ Ok done → SameRow n done (again first)
 
 pub same_now : (before after : FileSystem) → after ≡ before → IsAsItWas before.now after.now
 same_now before after is = subst (λ (s : FileSystem). IsAsItWas before.now s.now) (sym is) (as_always before.now)
 
-pub nameless_again : (n : Named) (first : Done) (fate : Fate) (before : FileSystem) (result : Result Done PartThere) (after : FileSystem) → IsAsItWas before.now after.now → result ≡ Ok (without_name fate) → first ≡ without_name fate → is_written fate ≡ false → StandsAgain n first before result after
+pub nameless_again : (n : Named) (first : Done) (fate : Fate) (before : FileSystem) (result : Result Done RunStop) (after : FileSystem) → IsAsItWas before.now after.now → result ≡ Ok (without_name fate) → first ≡ without_name fate → is_written fate ≡ false → StandsAgain n first before result after
 nameless_again n first fate before result after same is was not = record { same = same; row = λ done ok. nameless_row n done first fate (same_ok result (without_name fate) done is ok) was not }
 
 true_false : {A : Type 0} (b : Bool) → b ≡ true → b ≡ false → A
@@ -192,7 +192,7 @@ file_still h part path start now none still f = record {
   kind = f.kind;
 }
 
-file_again : {I O F E : Type 0} (h : Host I O) (r : Reader I) (w : Writer O) (e : Writer E) (k : Manner) (n : Named) (what : What) (first : Done) (start : Tree) (mode : ℕ) (from : E) (before : FileSystem) (result : Result Done PartThere) (to : E) (after : FileSystem) → Known h w k start before.now
+file_again : {I O F E : Type 0} (h : Host I O) (r : Reader I) (w : Writer O) (e : Writer E) (k : Manner) (n : Named) (what : What) (first : Done) (start : Tree) (mode : ℕ) (from : E) (before : FileSystem) (result : Result Done RunStop) (to : E) (after : FileSystem) → Known h w k start before.now
     → at_path h before.now k.part ≡ None → Stands h k.task k.output start (visit_of n what) first → what ≡ File mode → DoesFile (working {F = F} h r w e) k n mode from before result to after → after.unremoved ≡ false → StandsAgain n first before result after
 file_again {I} {O} {F} h r w e k n what first start mode from before result to after x none (of_copy other is index written c) file does gone =
     let again : IsDoneAgain e n c.uids c.copy.verdict from before result to after =
@@ -216,10 +216,10 @@ no_file_first h task output t n what first other (unnamed mode is index f ends n
 no_file_first h task output t n what first other (an_index mode is index d) = absurd (other mode is)
 no_file_first h task output t n what first other (no_file others d) = d
 
-pub no_file_again : (n : Named) (what : What) (first : Done) (before : FileSystem) (result : Result Done PartThere) (after : FileSystem) → ((mode : ℕ) → what ≢ File mode) → after ≡ before → result ≡ Ok (without_name (fate_of what)) → first ≡ without_name (fate_of what) → StandsAgain n first before result after
+pub no_file_again : (n : Named) (what : What) (first : Done) (before : FileSystem) (result : Result Done RunStop) (after : FileSystem) → ((mode : ℕ) → what ≢ File mode) → after ≡ before → result ≡ Ok (without_name (fate_of what)) → first ≡ without_name (fate_of what) → StandsAgain n first before result after
 no_file_again n what first before result after other same ok was = nameless_again n first (fate_of what) before result after (same_now before after same) ok was (what_not what)
 
-name_again : {I O F E : Type 0} (h : Host I O) (r : Reader I) (w : Writer O) (e : Writer E) (k : Manner) (n : Named) (what : What) (first : Done) (start : Tree) (from : E) (before : FileSystem) (result : Result Done PartThere) (to : E) (after : FileSystem) → Known h w k start before.now → at_path h before.now k.part ≡ None
+name_again : {I O F E : Type 0} (h : Host I O) (r : Reader I) (w : Writer O) (e : Writer E) (k : Manner) (n : Named) (what : What) (first : Done) (start : Tree) (from : E) (before : FileSystem) (result : Result Done RunStop) (to : E) (after : FileSystem) → Known h w k start before.now → at_path h before.now k.part ≡ None
     → Stands h k.task k.output start (visit_of n what) first → DoesName (working {F = F} h r w e) k n what from before result to after → after.unremoved ≡ false → StandsAgain n first before result after
 name_again {I} {O} {F} h r w e k n what first start from before result to after x none stands (files.a_file mode is does) gone = file_again {F = F} h r w e k n what first start mode from before result to after x none stands is does gone
 name_again h r w e k n what first start from before result to after x none stands (files.no_file other told ok same) gone = no_file_again n what first before result after other same ok (no_file_first h k.task k.output start n what first other stands)
@@ -230,7 +230,7 @@ visit_same : {I O F W E : Type 0} (h : Host I O) (r : Reader I) (w : Writer O) (
 visit_same h r w e m shared start from told_before before n what result to told after x none stands (spec.of_another not is t same ok) gone = same_now before after same
 visit_same {I} {O} {F} h r w e m shared start from told_before before n what result to told after x none stands (spec.was_done done mid share does ends) gone =
     (name_again {F = F} h r w e (manner_of shared.manner) n what (stands share).0 start told_before before (Ok done) mid after x none (stands share).1 does gone).same
-visit_same {I} {O} {F} h r w e m shared start from told_before before n what result to told after x none stands (spec.part_there p s share does is ok) gone =
+visit_same {I} {O} {F} h r w e m shared start from told_before before n what result to told after x none stands (spec.ends_run p s share does is ok) gone =
     (name_again {F = F} h r w e (manner_of shared.manner) n what (stands share).0 start told_before before (Err p) told after x none (stands share).1 does gone).same
 
 -- ---- all names

@@ -27,7 +27,7 @@ use Rattle.dcm_trees.specs.declared.file.Done.{Done}
 use Rattle.dcm_trees.specs.declared.part.Naming.{Naming}
 use Rattle.dcm_trees.specs.declared.part.Naming.TheVariants.{NotFree}
 use Rattle.dcm_trees.specs.declared.part.NoPart.{NoPart}
-use Rattle.dcm_trees.specs.declared.part.PartThere.{PartThere}
+use Rattle.dcm_trees.specs.declared.progress.Stop.{Stop as RunStop}
 use Rattle.dcm_trees.specs.declared.place.Place.TheVariants as places
 use Rattle.dcm_trees.specs.declared.task.NoDays.{NoDays}
 use Rattle.dcm_trees.specs.declared.task.NoDays.TheVariants as no_days
@@ -335,7 +335,7 @@ module _ {I O E : Type 0} (F : Type 0) (h : Host I O) (r : Reader I) (w : Writer
       }
 
   -- what becomes of it
-  again_by : (n : Named) (verdict : Verdict) (from : E) (before opened : FileSystem) (result : Result Done PartThere) (done : Done) (to : E) (after : FileSystem) → opened ≡ before → result ≡ Ok done → IsFilled n.name verdict from opened done to after
+  again_by : (n : Named) (verdict : Verdict) (from : E) (before opened : FileSystem) (result : Result Done RunStop) (done : Done) (to : E) (after : FileSystem) → opened ≡ before → result ≡ Ok done → IsFilled n.name verdict from opened done to after
       → IsDoneAgain e n uids verdict from before result to after
   again_by n verdict from before opened result done to after same is x = record {
     done = done;
@@ -346,7 +346,7 @@ module _ {I O E : Type 0} (F : Type 0) (h : Host I O) (r : Reader I) (w : Writer
   }
 
   -- the file is opened, and the part is made
-  by_instance : (job : Job) (n : Named) (mode : ℕ) (verdict : Verdict) (from : E) (s : FileSystem) (result : Result Done PartThere) (to : E) (after : FileSystem) → Before s → IsUtf8 n.path → (f : FileAt h Followed s.now n.path) → IsJobOf m.task (s.now.bytes (number_of f.file)) job
+  by_instance : (job : Job) (n : Named) (mode : ℕ) (verdict : Verdict) (from : E) (s : FileSystem) (result : Result Done RunStop) (to : E) (after : FileSystem) → Before s → IsUtf8 n.path → (f : FileAt h Followed s.now n.path) → IsJobOf m.task (s.now.bytes (number_of f.file)) job
       → ComesTo m.task (s.now.bytes (number_of f.file)) held verdict → is_written (verdict_fate verdict) ≡ true → after.unremoved ≡ false → DoesByInstance (working {F = F} h r w e) job m n mode from s result to after → IsDoneAgain e n uids verdict from s result to after
   by_instance job n mode verdict from s result to after x text f of_job comes written gone (instance.not_opened opens told is) = not_unopened h r w n.path s after text f opens
   by_instance job n mode verdict from s result to after x text f of_job comes written gone (instance.no_part input cause opened tried opens makes back ends) =
@@ -361,7 +361,7 @@ module _ {I O E : Type 0} (F : Type 0) (h : Host I O) (r : Reader I) (w : Writer
       (filled job n.name mode input output (s.now.bytes (number_of f.file)) verdict from opened made done to after here part.makes (ap h.took (looking.same_ok (Ok output) part.output output part.is refl) ∙ part.new) o.sound o.holds of_job comes written gone fills)
 
   -- its job is found
-  unnamed : (n : Named) (mode : ℕ) (verdict : Verdict) (from : E) (s : FileSystem) (result : Result Done PartThere) (to : E) (after : FileSystem) → Before s → IsUtf8 n.path → (f : FileAt h Followed s.now n.path) → ComesTo m.task (s.now.bytes (number_of f.file)) held verdict
+  unnamed : (n : Named) (mode : ℕ) (verdict : Verdict) (from : E) (s : FileSystem) (result : Result Done RunStop) (to : E) (after : FileSystem) → Before s → IsUtf8 n.path → (f : FileAt h Followed s.now n.path) → ComesTo m.task (s.now.bytes (number_of f.file)) held verdict
       → is_written (verdict_fate verdict) ≡ true → after.unremoved ≡ false → DoesUnnamed (working {F = F} h r w e) m n mode from s result to after → IsDoneAgain e n uids verdict from s result to after
   unnamed n mode verdict from s result to after x text f comes written gone (instance.no_days cause finds told is) =
       no_job_by m.task (s.now.bytes (number_of f.file)) cause comes.job comes.is_job (job_found h r w known.all m.task n.path s (Err cause) after text f finds)
@@ -370,7 +370,7 @@ module _ {I O E : Type 0} (F : Type 0) (h : Host I O) (r : Reader I) (w : Writer
       by_instance job n mode verdict from s result to after x text f (job_found h r w known.all m.task n.path s (Ok job) mid text f finds) comes written gone
       (subst (λ (t : FileSystem). DoesByInstance (working {F = F} h r w e) job m n mode from t result to after) same does)
 
-  file_again : (n : Named) (mode : ℕ) (verdict : Verdict) (from : E) (s : FileSystem) (result : Result Done PartThere) (to : E) (after : FileSystem) → m.keeps_names ≡ false → is_media_index n.relative ≡ false → Before s → IsUtf8 n.path → (f : FileAt h Followed s.now n.path)
+  file_again : (n : Named) (mode : ℕ) (verdict : Verdict) (from : E) (s : FileSystem) (result : Result Done RunStop) (to : E) (after : FileSystem) → m.keeps_names ≡ false → is_media_index n.relative ≡ false → Before s → IsUtf8 n.path → (f : FileAt h Followed s.now n.path)
       → ComesTo m.task (s.now.bytes (number_of f.file)) held verdict → is_written (verdict_fate verdict) ≡ true → after.unremoved ≡ false → DoesFile (working {F = F} h r w e) m n mode from s result to after → IsDoneAgain e n uids verdict from s result to after
   file_again n mode verdict from s result to after by no_index x text f comes written gone (files.an_index index told is same) = true_false (is_media_index n.relative) index no_index
   file_again n mode verdict from s result to after by no_index x text f comes written gone (files.keeps_name became index kept does is) = true_false m.keeps_names kept by
@@ -385,7 +385,7 @@ pub record Leads {I O : Type 0} (h : Host I O) (part output : List ℕ) (uids : 
   pub path_leads : h.leads Followed (below output (instance_name uids)) ≡ place_of h (below output (instance_name uids))
   pub fits : length made ≤ INPUT_LIMIT
 
-pub copy_again : {I O F E : Type 0} (h : Host I O) (r : Reader I) (w : Writer O) (e : Writer E) (m : Manner) (n : Named) (mode : ℕ) (uids : Uids) (from : E) (before : FileSystem) (result : Result Done PartThere) (to : E) (after : FileSystem) → TellsAll h w → m.keeps_names ≡ false
+pub copy_again : {I O F E : Type 0} (h : Host I O) (r : Reader I) (w : Writer O) (e : Writer E) (m : Manner) (n : Named) (mode : ℕ) (uids : Uids) (from : E) (before : FileSystem) (result : Result Done RunStop) (to : E) (after : FileSystem) → TellsAll h w → m.keeps_names ≡ false
     → is_media_index n.relative ≡ false → at_path h before.now m.part ≡ None → (c : HasCopy h m.task m.output before.now n.path uids) → Leads h m.part m.output uids c.made → DoesName (working {F = F} h r w e) m n (File mode) from before result to after → after.unremoved ≡ false
     → IsDoneAgain e n uids c.verdict from before result to after
 copy_again {I} {O} {F} h r w e m n mode uids from before result to after tells by no_index none c leads (files.a_file other is does) gone =

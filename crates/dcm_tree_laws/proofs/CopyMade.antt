@@ -18,7 +18,7 @@ use Rattle.dcm_cli.specs.declared.ending.Verdict.{Verdict}
 use Rattle.dcm_trees.specs.declared.fate.Fate.{Fate}
 use Rattle.dcm_trees.specs.declared.fate.Fate.TheVariants as fates
 use Rattle.dcm_trees.specs.declared.file.Done.{Done}
-use Rattle.dcm_trees.specs.declared.part.PartThere.{PartThere}
+use Rattle.dcm_trees.specs.declared.progress.Stop.{Stop as RunStop}
 use Rattle.dcm_trees.specs.Fate.{is_written, fate_of}
 use Rattle.dcm_trees.specs.File as files
 use Rattle.dcm_trees.specs.File.{DoesFile, DoesName}
@@ -110,7 +110,8 @@ pub new_part : {I O F : Type 0} (h : Host I O) (part : List ℕ) (mode : ℕ) (b
 new_part h part mode before output after (parts.no_text t is same) = absurd (cc)
 new_part h part mode before output after (parts.made o t call is) = record { text = t; makes = call.0.0; new = ap h.took (same_ok (Ok output) o.device output is refl) ∙ call.0.1 }
 new_part h part mode before output after (parts.is_there e t call k is) = absurd (cc)
-new_part h part mode before output after (parts.not_made e t call k is) = absurd (cc)
+new_part h part mode before output after (parts.no_memory e t call k is) = absurd (cc)
+new_part h part mode before output after (parts.not_made e t call k m is) = absurd (cc)
 
 module _ {I O F E : Type 0} (h : Host I O) (r : Reader I) (w : Writer O) (e : Writer E) (all : GivesAll h (as_whole h r) w) (m : Manner) (leads : h.leads Followed m.part ≡ place_of h m.part) where
   chosen_by : (name file_bytes bytes : List ℕ) (i : Instance) (fate : Fate) (from : E) (s : FileSystem) (done : Done) (to : E) (after : FileSystem) → IsMade m.task file_bytes bytes → FileNames bytes (Ok (uids_of i))
@@ -140,7 +141,7 @@ module _ {I O F E : Type 0} (h : Host I O) (r : Reader I) (w : Writer O) (e : Wr
       let whole : WholeAt h m.part (h.took f.written) opened.now was_filled.now = whole_at h m.part mode (h.took f.written) opened made was_filled makes closes in
       chosen_part name file_bytes (h.took f.written) (ending_fate ending) told was_filled done to after (is_made m.task file_bytes (h.took f.written) job ending of_job d is) text (followed h was_filled.now m.part whole.file leads whole.at whole.kind) whole.bytes names written
 
-  chosen_ready : (job : Job) (n : Named) (mode : ℕ) (from : E) (s : FileSystem) (result : Result Done PartThere) (to : E) (after : FileSystem) (done : Done) → IsUtf8 n.path → (f : FileAt h Followed s.now n.path) → IsJobOf m.task (s.now.bytes (number_of f.file)) job
+  chosen_ready : (job : Job) (n : Named) (mode : ℕ) (from : E) (s : FileSystem) (result : Result Done RunStop) (to : E) (after : FileSystem) (done : Done) → IsUtf8 n.path → (f : FileAt h Followed s.now n.path) → IsJobOf m.task (s.now.bytes (number_of f.file)) job
       → DoesByInstance (working {F = F} h r w e) job m n mode from s result to after → result ≡ Ok done → is_written done.fate ≡ true → Chosen m.task m.output (s.now.bytes (number_of f.file)) done
   chosen_ready job n mode from s result to after done text f of_job (instance.not_opened opens told is) ok written = no_output done fates.Unread (same_ok result (without_name fates.Unread) done is ok) refl written
   chosen_ready job n mode from s result to after done text f of_job (instance.no_part input cause opened tried opens makes back ends) ok written = true_not done.fate (ends_not e n.name cause from result to done ends ok) written
@@ -151,20 +152,20 @@ module _ {I O F E : Type 0} (h : Host I O) (r : Reader I) (w : Writer O) (e : Wr
       subst (Chosen m.task m.output (s.now.bytes (number_of f.file))) (sym same)
       (chosen_filled job n.name mode input output (s.now.bytes (number_of f.file)) from opened made became to after part.text part.makes part.new o.holds of_job fills (ap (λ (d : Done). is_written d.fate) (sym same) ∙ written))
 
-  chosen_unnamed : (n : Named) (mode : ℕ) (from : E) (s : FileSystem) (result : Result Done PartThere) (to : E) (after : FileSystem) (done : Done) → IsUtf8 n.path → (f : FileAt h Followed s.now n.path)
+  chosen_unnamed : (n : Named) (mode : ℕ) (from : E) (s : FileSystem) (result : Result Done RunStop) (to : E) (after : FileSystem) (done : Done) → IsUtf8 n.path → (f : FileAt h Followed s.now n.path)
       → DoesUnnamed (working {F = F} h r w e) m n mode from s result to after → result ≡ Ok done → is_written done.fate ≡ true → Chosen m.task m.output (s.now.bytes (number_of f.file)) done
   chosen_unnamed n mode from s result to after done text f (instance.no_days cause finds told is) ok written = no_output done (no_days_fate cause) (same_ok result (without_name (no_days_fate cause)) done is ok) (days_not cause) written
   chosen_unnamed n mode from s result to after done text f (instance.has_job job mid finds does) ok written =
       let same : mid ≡ s = jobs.finds_job h (as_whole h r) m.task n.path s (Ok job) mid (works.finds_job (working_may h r w (may_do h)) (may_do h) (working_also h r w) (as_whole h r) m.task n.path s (Ok job) mid finds) in
       chosen_ready job n mode from s result to after done text f (job_found h r w all m.task n.path s (Ok job) mid text f finds) (subst (λ (t : FileSystem). DoesByInstance (working {F = F} h r w e) job m n mode from t result to after) same does) ok written
 
-  chosen_file : (n : Named) (mode : ℕ) (from : E) (s : FileSystem) (result : Result Done PartThere) (to : E) (after : FileSystem) (done : Done) → m.keeps_names ≡ false → IsUtf8 n.path → (f : FileAt h Followed s.now n.path)
+  chosen_file : (n : Named) (mode : ℕ) (from : E) (s : FileSystem) (result : Result Done RunStop) (to : E) (after : FileSystem) (done : Done) → m.keeps_names ≡ false → IsUtf8 n.path → (f : FileAt h Followed s.now n.path)
       → DoesFile (working {F = F} h r w e) m n mode from s result to after → result ≡ Ok done → is_written done.fate ≡ true → Chosen m.task m.output (s.now.bytes (number_of f.file)) done
   chosen_file n mode from s result to after done by text f (files.an_index index told is same) ok written = no_output done fates.MediaIndex (same_ok result (without_name fates.MediaIndex) done is ok) refl written
   chosen_file n mode from s result to after done by text f (files.keeps_name became index kept does is) ok written = true_false m.keeps_names kept by
   chosen_file n mode from s result to after done by text f (files.by_instance index not does) ok written = chosen_unnamed n mode from s result to after done text f does ok written
 
-  chosen : (n : Named) (what : What) (from : E) (s : FileSystem) (result : Result Done PartThere) (to : E) (after : FileSystem) (done : Done) → m.keeps_names ≡ false → IsUtf8 n.path → (f : FileAt h Followed s.now n.path)
+  chosen : (n : Named) (what : What) (from : E) (s : FileSystem) (result : Result Done RunStop) (to : E) (after : FileSystem) (done : Done) → m.keeps_names ≡ false → IsUtf8 n.path → (f : FileAt h Followed s.now n.path)
       → DoesName (working {F = F} h r w e) m n what from s result to after → result ≡ Ok done → is_written done.fate ≡ true → Chosen m.task m.output (s.now.bytes (number_of f.file)) done
   chosen n what from s result to after done by text f (files.a_file mode is does) ok written = chosen_file n mode from s result to after done by text f does ok written
   chosen n what from s result to after done by text f (files.no_file other told is same) ok written = no_output done (fate_of what) (same_ok result (without_name (fate_of what)) done is ok) (what_not what) written

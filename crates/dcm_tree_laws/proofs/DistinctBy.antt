@@ -117,7 +117,7 @@ visit_new h IsWhole r w e m shared start headed from told_before before n what r
     }
 visit_new h IsWhole r w e m shared start headed from told_before before n what result to told after still stays new earlier visits more (spec.was_done done mid share does (spec.no_row manifest failure s puts t is ok)) stop had =
     absurd (no_stop to.stop _ (ap (λ p. p.stop) is) stop)
-visit_new h IsWhole r w e m shared start headed from told_before before n what result to told after still stays new earlier visits more (spec.part_there p s share does is ok) stop had = absurd (no_stop to.stop _ (ap (λ q. q.stop) is) stop)
+visit_new h IsWhole r w e m shared start headed from told_before before n what result to told after still stays new earlier visits more (spec.ends_run p s share does is ok) stop had = absurd (no_stop to.stop _ (ap (λ q. q.stop) is) stop)
 
 -- ---- all names
 

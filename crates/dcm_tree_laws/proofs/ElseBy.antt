@@ -171,7 +171,7 @@ module _ {I O F W E : Type 0} (h : Host I O) (r : Reader I) (w : Writer O) (e : 
   visit_else from told_before before n what result to told after none since other stop (spec.of_another not is t same ok) = same_else before after place same
   visit_else from told_before before n what result to told after none since other stop (spec.was_done done mid share does ends) =
       sparing.step (Of shared) known.number known.part_is known.keeps_is output_is task_is n what told_before before done mid after none since other does
-  visit_else from told_before before n what result to told after none since other stop (spec.part_there p s share does is ok) = absurd (no_stop to.stop _ (ap (λ q. q.stop) is) stop)
+  visit_else from told_before before n what result to told after none since other stop (spec.ends_run p s share does is ok) = absurd (no_stop to.stop _ (ap (λ q. q.stop) is) stop)
 
   visits_good : (start : FileSystem) → VisitsDo (StaysGood h folder first place IsSparing shared start) (noted (visits_of (working {F = F} h r w e) m))
   visits_good start from before n what result to after v good =

@@ -19,7 +19,7 @@ use Rattle.dcm_trees.specs.declared.fate.Fate.TheVariants as fates
 use Rattle.dcm_trees.specs.declared.file.Done.{Done}
 use Rattle.dcm_trees.specs.declared.part.Naming.{Naming}
 use Rattle.dcm_trees.specs.declared.part.Naming.TheVariants.{NotFree}
-use Rattle.dcm_trees.specs.declared.part.PartThere.{PartThere}
+use Rattle.dcm_trees.specs.declared.progress.Stop.{Stop as RunStop}
 use Rattle.dcm_trees.specs.declared.place.Place.TheVariants as places
 use Rattle.dcm_trees.specs.declared.task.NoDays.TheVariants as days
 use Rattle.dcm_trees.specs.Fate.{is_written}
@@ -236,7 +236,7 @@ module _ {I O E : Type 0} (F : Type 0) (h : Host I O) (r : Reader I) (w : Writer
             (then_free h k relative clear opened.now made.now (made_part {F = F} h k.part k.output relative ⊥ mode opened output made makes) free);
       }) (record { job = job; is_job = is_job; answered = x.answered }) (sym (ap is_written its) ∙ was) its names
 
-  made_told : (job : Job) (n : Named) (bytes : List ℕ) (mode : ℕ) (from : E) (before : FileSystem) (result : Result Done PartThere) (to : E) (after : FileSystem) (done : Done) → before.written ≡ None → IsUtf8 n.path → IsHere h n.path bytes before.now → IsJobOf k.task bytes job
+  made_told : (job : Job) (n : Named) (bytes : List ℕ) (mode : ℕ) (from : E) (before : FileSystem) (result : Result Done RunStop) (to : E) (after : FileSystem) (done : Done) → before.written ≡ None → IsUtf8 n.path → IsHere h n.path bytes before.now → IsJobOf k.task bytes job
       → DoesByInstance (working {F = F} h r w e) job k n mode from before result to after → result ≡ Ok done → EndsTold h k bytes before.now done
   made_told job n bytes mode from before result to after done none text here is_job (instance.not_opened opens told x) ok = not_unopened h r w n.path before after text here.file opens
   made_told job n bytes mode from before result to after done none text here is_job (instance.no_part input cause opened tried opens makes back ends) ok =
@@ -248,7 +248,7 @@ module _ {I O E : Type 0} (F : Type 0) (h : Host I O) (r : Reader I) (w : Writer
       (filled_told job n.name bytes mode input output o.sound (o.holds ∙ here.bytes_are) is_job from opened made became to after (subst (λ (s : FileSystem). s.written ≡ None) (sym o.same) none) (new_part {F = F} h k.part mode opened output made makes)
       (sures.makes_part (Works {F = F} h) (folders_do {F = F} h) (working_can h) k.part mode opened (Ok output) made makes) f))
 
-  unnamed_told : (n : Named) (bytes : List ℕ) (mode : ℕ) (from : E) (before : FileSystem) (result : Result Done PartThere) (to : E) (after : FileSystem) (done : Done) → before.written ≡ None → IsUtf8 n.path → IsHere h n.path bytes before.now
+  unnamed_told : (n : Named) (bytes : List ℕ) (mode : ℕ) (from : E) (before : FileSystem) (result : Result Done RunStop) (to : E) (after : FileSystem) (done : Done) → before.written ≡ None → IsUtf8 n.path → IsHere h n.path bytes before.now
       → DoesUnnamed (working {F = F} h r w e) k n mode from before result to after → result ≡ Ok done → EndsTold h k bytes before.now done
   unnamed_told n bytes mode from before result to after done none text here (instance.no_days cause f told x) ok =
       ends_unnamed (no_days_fate cause) (no_job_ends k.task bytes cause (subst (λ (b : List ℕ). JobIs k.task b (Err cause)) here.bytes_are (job_found h r w all k.task n.path before (Err cause) after text here.file f)))
@@ -259,7 +259,7 @@ module _ {I O E : Type 0} (F : Type 0) (h : Host I O) (r : Reader I) (w : Writer
       (made_told job n bytes mode from mid result to after done (subst (λ (s : FileSystem). s.written ≡ None) (sym same) none) text (subst (λ (s : FileSystem). IsHere h n.path bytes s.now) (sym same) here)
       (subst (λ (b : List ℕ). JobIs k.task b (Ok job)) here.bytes_are (job_found h r w all k.task n.path before (Ok job) mid text here.file f)) does ok)
 
-  file_told : (n : Named) (bytes : List ℕ) (mode : ℕ) (from : E) (before : FileSystem) (result : Result Done PartThere) (to : E) (after : FileSystem) (done : Done) → k.keeps_names ≡ false → is_media_index n.relative ≡ false → before.written ≡ None → IsUtf8 n.path → IsHere h n.path bytes before.now
+  file_told : (n : Named) (bytes : List ℕ) (mode : ℕ) (from : E) (before : FileSystem) (result : Result Done RunStop) (to : E) (after : FileSystem) (done : Done) → k.keeps_names ≡ false → is_media_index n.relative ≡ false → before.written ≡ None → IsUtf8 n.path → IsHere h n.path bytes before.now
       → DoesFile (working {F = F} h r w e) k n mode from before result to after → result ≡ Ok done → EndsTold h k bytes before.now done
   file_told n bytes mode from before result to after done not no_index none text here (files.an_index index told x same) ok = true_false (is_media_index n.relative) index no_index
   file_told n bytes mode from before result to after done not no_index none text here (files.keeps_name became index kept does x) ok = true_false k.keeps_names kept not

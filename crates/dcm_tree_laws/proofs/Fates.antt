@@ -21,7 +21,7 @@ use Rattle.dcm_trees.specs.declared.part.Naming.{Naming}
 use Rattle.dcm_trees.specs.declared.part.Naming.TheVariants.{Linked}
 use Rattle.dcm_trees.specs.declared.part.NoPart.{NoPart}
 use Rattle.dcm_trees.specs.declared.part.NoPart.TheVariants.{NotMade as PartNotMade}
-use Rattle.dcm_trees.specs.declared.part.PartThere.{PartThere}
+use Rattle.dcm_trees.specs.declared.progress.Stop.{Stop as RunStop}
 use Rattle.dcm_trees.specs.declared.place.NotMade.{NotMade}
 use Rattle.dcm_trees.specs.declared.place.Place.{Place}
 use Rattle.dcm_trees.specs.declared.task.NoDays.{NoDays}
@@ -202,12 +202,13 @@ pub part_not : {I O F : Type 0} (h : Host I O) (part : List ℕ) (mode : ℕ) (b
 part_not h part mode before cause after text (parts.no_text t is same) not = t text
 part_not h part mode before cause after text (parts.made o t call is) not = absurd (cc)
 part_not h part mode before cause after text (parts.is_there e t call k is) not = absurd (cc)
-part_not h part mode before cause after text (parts.not_made e t call k is) not = k call.1.1
+part_not h part mode before cause after text (parts.no_memory e t call k is) not = absurd (cc)
+part_not h part mode before cause after text (parts.not_made e t call k m is) not = k call.1.1
 
 -- another run's part ends the run, and no other is missing
-no_part_ends : {A I O F E : Type 0} (h : Host I O) (e : Writer E) (part name : List ℕ) (mode : ℕ) (before : FileSystem) (cause : NoPart) (after : FileSystem) (from : E) (result : Result Fate PartThere) (to : E) (fate : Fate) → IsUtf8 part → MakesPart (Works {F = F} h) part mode before (Err cause) after
+no_part_ends : {A I O F E : Type 0} (h : Host I O) (e : Writer E) (part name : List ℕ) (mode : ℕ) (before : FileSystem) (cause : NoPart) (after : FileSystem) (from : E) (result : Result Fate RunStop) (to : E) (fate : Fate) → IsUtf8 part → MakesPart (Works {F = F} h) part mode before (Err cause) after
     → TellsNoPart e name cause from result to → result ≡ Ok fate → A
-no_part_ends h e part name mode before cause after from result to fate text makes (parts.of_another p c t is) ok = absurd (not_ok result p fate is ok)
+no_part_ends h e part name mode before cause after from result to fate text makes (parts.ends_run p c t is) ok = absurd (not_ok result p fate is ok)
 no_part_ends {A} {I} {O} {F} h e part name mode before cause after from result to fate text makes (parts.told c t is) ok = absurd (part_not {F = F} h part mode before cause after text makes c)
 
 -- ---- a file
@@ -232,7 +233,7 @@ module _ {I O F E : Type 0} (h : Host I O) (r : Reader I) (w : Writer O) (e : Wr
       by_verdict k.task bytes (h.took f.written) job fate ending is_job (names.becomes ∙ ap (λ (x : Naming). naming_fate x (ending_fate ending) k.continues) linked)
       (subst (λ (b : List ℕ). HasDone job b (h.took f.written) ending) holds (job_done h r w all job input output before ending was_filled sound new f))
 
-  ready_so : (job : Job) (path bytes : List ℕ) → path ≡ below k.output n.relative → (mode : ℕ) (from : E) (before : FileSystem) (result : Result Fate PartThere) (to : E) (after : FileSystem) (fate : Fate) → IsJobOf k.task bytes job → IsHere h n.path bytes before.now
+  ready_so : (job : Job) (path bytes : List ℕ) → path ≡ below k.output n.relative → (mode : ℕ) (from : E) (before : FileSystem) (result : Result Fate RunStop) (to : E) (after : FileSystem) (fate : Fate) → IsJobOf k.task bytes job → IsHere h n.path bytes before.now
       → IsIdle h (IsOutput h (as_whole h r) w) k.part k.output idle before before → IsFree h k.output n.relative before.now → DoesReady (working {F = F} h r w e) job k n mode path from before result to after → result ≡ Ok fate → Fated k.task bytes fate
   ready_so job path bytes is mode from before result to after fate is_job here i free (files.not_opened opens told x) ok = not_unopened h r w n.path before after text here.file opens
   ready_so job path bytes is mode from before result to after fate is_job here i free (files.no_part input cause opened tried opens makes back tells) ok =
@@ -245,7 +246,7 @@ module _ {I O F E : Type 0} (h : Host I O) (r : Reader I) (w : Writer O) (e : Wr
       (more (more i (quiet o.same)) (part_is_made {F = F} h (IsOutput h (as_whole h r) w) k.part k.output mode opened output made over))
       (then_free h k n.relative clear opened.now made.now (made_part {F = F} h k.part k.output n.relative ⊥ mode opened output made over) (subst (λ (s : FileSystem). IsFree h k.output n.relative s.now) (sym o.same) free)) f)
 
-  free_so : (path bytes : List ℕ) → path ≡ below k.output n.relative → (mode : ℕ) (from : E) (before : FileSystem) (result : Result Fate PartThere) (to : E) (after : FileSystem) (fate : Fate) → IsHere h n.path bytes before.now
+  free_so : (path bytes : List ℕ) → path ≡ below k.output n.relative → (mode : ℕ) (from : E) (before : FileSystem) (result : Result Fate RunStop) (to : E) (after : FileSystem) (fate : Fate) → IsHere h n.path bytes before.now
       → IsIdle h (IsOutput h (as_whole h r) w) k.part k.output idle before before → IsFree h k.output n.relative before.now → DoesFree (working {F = F} h r w e) k n mode path from before result to after → result ≡ Ok fate → Fated k.task bytes fate
   free_so path bytes is mode from before result to after fate here i free (files.no_days cause f told x) ok =
       no_job_by k.task bytes fate cause (same_ok result (no_days_fate cause) fate x ok) (subst (λ (b : List ℕ). JobIs k.task b (Err cause)) here.bytes_are (job_found h r w all k.task n.path before (Err cause) after text here.file f))
@@ -255,7 +256,7 @@ module _ {I O F E : Type 0} (h : Host I O) (r : Reader I) (w : Writer O) (e : Wr
       (subst (λ (s : FileSystem). IsHere h n.path bytes s.now) (sym same) here) (subst (λ (s : FileSystem). IsIdle h (IsOutput h (as_whole h r) w) k.part k.output idle s s) (sym same) i)
       (subst (λ (s : FileSystem). IsFree h k.output n.relative s.now) (sym same) free) does ok
 
-  placed_so : (path bytes : List ℕ) → path ≡ below k.output n.relative → (mode : ℕ) (from : E) (before : FileSystem) (result : Result Fate PartThere) (to : E) (after : FileSystem) (fate : Fate) → IsHere h n.path bytes before.now
+  placed_so : (path bytes : List ℕ) → path ≡ below k.output n.relative → (mode : ℕ) (from : E) (before : FileSystem) (result : Result Fate RunStop) (to : E) (after : FileSystem) (fate : Fate) → IsHere h n.path bytes before.now
       → IsIdle h (IsOutput h (as_whole h r) w) k.part k.output idle before before → IsFree h k.output n.relative before.now → DoesPlaced (working {F = F} h r w e) k n mode path from before result to after → result ≡ Ok fate → Fated k.task bytes fate
   placed_so path bytes is mode from before result to after fate here i free (files.not_free p f nf told x) ok =
       true_false (is_free p) (finds_free {F = F} h k.output n.relative path is before p after free (sures.finds (Works {F = F} h) (sure (folders_do {F = F} h)) (working_sure {F = F} h).sees path (length k.output + 1) before p after f)) nf
@@ -265,18 +266,18 @@ module _ {I O F E : Type 0} (h : Host I O) (r : Reader I) (w : Writer O) (e : Wr
       (subst (λ (s : FileSystem). IsHere h n.path bytes s.now) (sym same) here) (subst (λ (s : FileSystem). IsIdle h (IsOutput h (as_whole h r) w) k.part k.output idle s s) (sym same) i)
       (subst (λ (s : FileSystem). IsFree h k.output n.relative s.now) (sym same) free) does ok
 
-  named_so : (bytes : List ℕ) (mode : ℕ) (from : E) (before : FileSystem) (result : Result Fate PartThere) (to : E) (after : FileSystem) (fate : Fate) → IsHere h n.path bytes before.now
+  named_so : (bytes : List ℕ) (mode : ℕ) (from : E) (before : FileSystem) (result : Result Fate RunStop) (to : E) (after : FileSystem) (fate : Fate) → IsHere h n.path bytes before.now
       → IsIdle h (IsOutput h (as_whole h r) w) k.part k.output idle before before → IsFree h k.output n.relative before.now → DoesNamed (working {F = F} h r w e) k n mode from before result to after → result ≡ Ok fate → Fated k.task bytes fate
   named_so bytes mode from before result to after fate here i free (files.too_long none told x same) ok = absurd (too_long k.output n.relative free.fits none)
   named_so bytes mode from before result to after fate here i free (files.placed path at does) ok = placed_so path bytes (path_is k.output n.relative path at) mode from before result to after fate here i free does ok
 
-  kept_so : (bytes : List ℕ) (mode : ℕ) (from : E) (before : FileSystem) (became : Result Fate PartThere) (result : Result Done PartThere) (to : E) (after : FileSystem) (done : Done) → IsHere h n.path bytes before.now
+  kept_so : (bytes : List ℕ) (mode : ℕ) (from : E) (before : FileSystem) (became : Result Fate RunStop) (result : Result Done RunStop) (to : E) (after : FileSystem) (done : Done) → IsHere h n.path bytes before.now
       → IsIdle h (IsOutput h (as_whole h r) w) k.part k.output idle before before → IsFree h k.output n.relative before.now → DoesNamed (working {F = F} h r w e) k n mode from before became to after → result ≡ under_its_name became → result ≡ Ok done → Fated k.task bytes done.fate
   kept_so bytes mode from before (Ok fate) result to after done here i free does x ok =
       subst (λ (d : Done). Fated k.task bytes d.fate) (sym (same_ok result (record { fate = fate; instance = None }) done x ok)) (named_so bytes mode from before (Ok fate) to after fate here i free does refl)
   kept_so bytes mode from before (Err p) result to after done here i free does x ok = absurd (no_done result p done x ok)
 
-  file_so : (bytes : List ℕ) (mode : ℕ) (from : E) (before : FileSystem) (result : Result Done PartThere) (to : E) (after : FileSystem) (done : Done) → k.keeps_names ≡ true → is_media_index n.relative ≡ false → IsHere h n.path bytes before.now
+  file_so : (bytes : List ℕ) (mode : ℕ) (from : E) (before : FileSystem) (result : Result Done RunStop) (to : E) (after : FileSystem) (done : Done) → k.keeps_names ≡ true → is_media_index n.relative ≡ false → IsHere h n.path bytes before.now
       → IsIdle h (IsOutput h (as_whole h r) w) k.part k.output idle before before → IsFree h k.output n.relative before.now → DoesFile (working {F = F} h r w e) k n mode from before result to after → result ≡ Ok done → Fated k.task bytes done.fate
   file_so bytes mode from before result to after done keeps no_index here i free (files.an_index index told x same) ok = true_false (is_media_index n.relative) index no_index
   file_so bytes mode from before result to after done keeps no_index here i free (files.keeps_name became index kept does x) ok = kept_so bytes mode from before became result to after done here i free does x ok

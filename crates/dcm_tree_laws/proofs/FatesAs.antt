@@ -21,7 +21,7 @@ use Rattle.dcm_trees.specs.declared.file.Done.{Done}
 use Rattle.dcm_trees.specs.declared.part.Naming.{Naming}
 use Rattle.dcm_trees.specs.declared.part.Naming.TheVariants.{Linked}
 use Rattle.dcm_trees.specs.declared.part.NoPart.{NoPart}
-use Rattle.dcm_trees.specs.declared.part.PartThere.{PartThere}
+use Rattle.dcm_trees.specs.declared.progress.Stop.{Stop as RunStop}
 use Rattle.dcm_trees.specs.declared.task.NoDays.{NoDays}
 use Rattle.dcm_trees.specs.declared.task.NoDays.TheVariants as no_days
 use Rattle.dcm_trees.specs.Fate.{is_written}
@@ -152,11 +152,11 @@ module _ {I O F E : Type 0} (h : Host I O) (r : Reader I) (w : Writer O) (e : Wr
       (λ relative free clear. then_free h k relative clear made.now was_filled.now (filled h (as_whole h r) w k relative job input output made ending was_filled ⊥ over)
       (then_free h k relative clear opened.now made.now (made_part {F = F} h k.part k.output relative ⊥ mode opened output made makes) free)) names
 
-  pub no_part_as : {A : Type 0} (name : List ℕ) (mode : ℕ) (before : FileSystem) (cause : NoPart) (tried : FileSystem) (from : E) (result : Result Done PartThere) (to : E) (done : Done) → MakesPart (Works {F = F} h) k.part mode before (Err cause) tried → EndsWithoutPart e name cause from result to → result ≡ Ok done → A
-  no_part_as name mode before cause tried from result to done makes (instance.ended became (parts.of_another p c t is) x) ok = absurd (no_err result p done (x ∙ ap instance.unnamed is) ok)
+  pub no_part_as : {A : Type 0} (name : List ℕ) (mode : ℕ) (before : FileSystem) (cause : NoPart) (tried : FileSystem) (from : E) (result : Result Done RunStop) (to : E) (done : Done) → MakesPart (Works {F = F} h) k.part mode before (Err cause) tried → EndsWithoutPart e name cause from result to → result ≡ Ok done → A
+  no_part_as name mode before cause tried from result to done makes (instance.ended became (parts.ends_run p c t is) x) ok = absurd (no_err result p done (x ∙ ap instance.unnamed is) ok)
   no_part_as name mode before cause tried from result to done makes (instance.ended became (parts.told c t is) x) ok = absurd (part_not {F = F} h k.part mode before cause tried part_text makes c)
 
-  made_as : (job : Job) (n : Named) (bytes : List ℕ) (mode : ℕ) (from : E) (before : FileSystem) (result : Result Done PartThere) (to : E) (after : FileSystem) (done : Done) → before.written ≡ None → IsUtf8 n.path → IsHere h n.path bytes before.now → IsJobOf k.task bytes job
+  made_as : (job : Job) (n : Named) (bytes : List ℕ) (mode : ℕ) (from : E) (before : FileSystem) (result : Result Done RunStop) (to : E) (after : FileSystem) (done : Done) → before.written ≡ None → IsUtf8 n.path → IsHere h n.path bytes before.now → IsJobOf k.task bytes job
       → DoesByInstance (working {F = F} h r w e) job k n mode from before result to after → result ≡ Ok done → EndsNamed h k bytes before.now done
   made_as job n bytes mode from before result to after done none text here is_job (instance.not_opened opens told x) ok = not_unopened h r w n.path before after text here.file opens
   made_as job n bytes mode from before result to after done none text here is_job (instance.no_part input cause opened tried opens makes back ends) ok = no_part_as n.name mode opened cause tried from result to done makes ends ok
@@ -167,7 +167,7 @@ module _ {I O F E : Type 0} (h : Host I O) (r : Reader I) (w : Writer O) (e : Wr
       (filled_as job n.name bytes mode input output o.sound (o.holds ∙ here.bytes_are) is_job from opened made became to after (subst (λ (s : FileSystem). s.written ≡ None) (sym o.same) none)
       (sures.makes_part (Works {F = F} h) (folders_do {F = F} h) (working_can h) k.part mode opened (Ok output) made makes) f))
 
-  unnamed_as : (n : Named) (bytes : List ℕ) (mode : ℕ) (from : E) (before : FileSystem) (result : Result Done PartThere) (to : E) (after : FileSystem) (done : Done) → before.written ≡ None → IsUtf8 n.path → IsHere h n.path bytes before.now
+  unnamed_as : (n : Named) (bytes : List ℕ) (mode : ℕ) (from : E) (before : FileSystem) (result : Result Done RunStop) (to : E) (after : FileSystem) (done : Done) → before.written ≡ None → IsUtf8 n.path → IsHere h n.path bytes before.now
       → DoesUnnamed (working {F = F} h r w e) k n mode from before result to after → result ≡ Ok done → EndsNamed h k bytes before.now done
   unnamed_as n bytes mode from before result to after done none text here (instance.no_days cause f told x) ok =
       no_days_as h k bytes before.now done cause (same_ok result (without_name (no_days_fate cause)) done x ok) (subst (λ (b : List ℕ). JobIs k.task b (Err cause)) here.bytes_are (job_found h r w all k.task n.path before (Err cause) after text here.file f))
@@ -177,7 +177,7 @@ module _ {I O F E : Type 0} (h : Host I O) (r : Reader I) (w : Writer O) (e : Wr
       (made_as job n bytes mode from mid result to after done (subst (λ (s : FileSystem). s.written ≡ None) (sym same) none) text (subst (λ (s : FileSystem). IsHere h n.path bytes s.now) (sym same) here)
       (subst (λ (b : List ℕ). JobIs k.task b (Ok job)) here.bytes_are (job_found h r w all k.task n.path before (Ok job) mid text here.file f)) does ok)
 
-  file_named : (n : Named) (bytes : List ℕ) (mode : ℕ) (from : E) (before : FileSystem) (result : Result Done PartThere) (to : E) (after : FileSystem) (done : Done) → k.keeps_names ≡ false → is_media_index n.relative ≡ false → before.written ≡ None → IsUtf8 n.path → IsHere h n.path bytes before.now
+  file_named : (n : Named) (bytes : List ℕ) (mode : ℕ) (from : E) (before : FileSystem) (result : Result Done RunStop) (to : E) (after : FileSystem) (done : Done) → k.keeps_names ≡ false → is_media_index n.relative ≡ false → before.written ≡ None → IsUtf8 n.path → IsHere h n.path bytes before.now
       → DoesFile (working {F = F} h r w e) k n mode from before result to after → result ≡ Ok done → EndsNamed h k bytes before.now done
   file_named n bytes mode from before result to after done not no_index none text here (files.an_index index told x same) ok = true_false (is_media_index n.relative) index no_index
   file_named n bytes mode from before result to after done not no_index none text here (files.keeps_name became index kept does x) ok = true_false k.keeps_names kept not

@@ -10,7 +10,7 @@ use Rattle.dcm_words.specs.Words.{Job}
 use Rattle.dcm_cli.specs.Calls.{Reader}
 use Rattle.dcm_trees.specs.declared.fate.Fate.{Fate}
 use Rattle.dcm_trees.specs.declared.file.Done.{Done}
-use Rattle.dcm_trees.specs.declared.part.PartThere.{PartThere}
+use Rattle.dcm_trees.specs.declared.progress.Stop.{Stop as RunStop}
 use Rattle.dcm_trees.specs.File as spec
 use Rattle.dcm_trees.specs.File.{DoesReady, DoesFree, DoesPlaced, DoesNamed, DoesFile, DoesName}
 use Rattle.dcm_trees.specs.Instance as instance
@@ -41,7 +41,7 @@ path_is output name path e = path_if (nat_le (length (below output name)) PATH_L
 -- ---- a file whose output has its name
 
 ready : {I O F E : Type 0} (h : Host I O) (r : Reader I) (w : Writer O) (e : Writer E) (job : Job) (m : Manner) (n : Named) (mode : ℕ) (path relative : List ℕ) → path ≡ below m.output relative
-    → (from : E) (before : FileSystem) (result : Result Fate PartThere) (to : E) (after : FileSystem) → DoesReady (over {F = F} h r w e) job m n mode path from before result to after
+    → (from : E) (before : FileSystem) (result : Result Fate RunStop) (to : E) (after : FileSystem) → DoesReady (over {F = F} h r w e) job m n mode path from before result to after
     → Steps h (IsOutput h r w) m.part m.output idle before idle after
 ready {I} h r w e job m n mode path relative is from before result to after (spec.not_opened opens told i) = quiet (opens_file {I = I} h n.path before None after opens)
 ready {I} {O} {F} h r w e job m n mode path relative is from before result to after (spec.no_part input cause opened tried opens makes back tells) =
@@ -52,20 +52,20 @@ ready {I} {O} {F} h r w e job m n mode path relative is from before result to af
     (fills_and_names {F = F} h r w e job m n.name path relative is mode input output (part_is_new {F = F} h m.part mode opened output made makes) from made fate to after fills))
 
 free : {I O F E : Type 0} (h : Host I O) (r : Reader I) (w : Writer O) (e : Writer E) (m : Manner) (n : Named) (mode : ℕ) (path relative : List ℕ) → path ≡ below m.output relative
-    → (from : E) (before : FileSystem) (result : Result Fate PartThere) (to : E) (after : FileSystem) → DoesFree (over {F = F} h r w e) m n mode path from before result to after
+    → (from : E) (before : FileSystem) (result : Result Fate RunStop) (to : E) (after : FileSystem) → DoesFree (over {F = F} h r w e) m n mode path from before result to after
     → Steps h (IsOutput h r w) m.part m.output idle before idle after
 free h r w e m n mode path relative is from before result to after (spec.no_days cause f told i) = quiet (finds_job h r m.task n.path before (Err cause) after f)
 free {I} {O} {F} h r w e m n mode path relative is from before result to after (spec.has_job job mid f does) =
     goes_on (quiet (finds_job h r m.task n.path before (Ok job) mid f)) (ready {F = F} h r w e job m n mode path relative is from mid result to after does)
 
 placed : {I O F E : Type 0} (h : Host I O) (r : Reader I) (w : Writer O) (e : Writer E) (m : Manner) (n : Named) (mode : ℕ) (path relative : List ℕ) → path ≡ below m.output relative
-    → (from : E) (before : FileSystem) (result : Result Fate PartThere) (to : E) (after : FileSystem) → DoesPlaced (over {F = F} h r w e) m n mode path from before result to after
+    → (from : E) (before : FileSystem) (result : Result Fate RunStop) (to : E) (after : FileSystem) → DoesPlaced (over {F = F} h r w e) m n mode path from before result to after
     → Steps h (IsOutput h r w) m.part m.output idle before idle after
 placed {I} {O} {F} h r w e m n mode path relative is from before result to after (spec.not_free place f nf told i) = quiet (finds (folders_do {F = F} h) (are_quiet h) path (length m.output + 1) before place after f)
 placed {I} {O} {F} h r w e m n mode path relative is from before result to after (spec.free place looked f nf does) =
     goes_on (quiet (finds (folders_do {F = F} h) (are_quiet h) path (length m.output + 1) before place looked f)) (free {F = F} h r w e m n mode path relative is from looked result to after does)
 
-named : {I O F E : Type 0} (h : Host I O) (r : Reader I) (w : Writer O) (e : Writer E) (m : Manner) (n : Named) (mode : ℕ) (from : E) (before : FileSystem) (result : Result Fate PartThere) (to : E) (after : FileSystem)
+named : {I O F E : Type 0} (h : Host I O) (r : Reader I) (w : Writer O) (e : Writer E) (m : Manner) (n : Named) (mode : ℕ) (from : E) (before : FileSystem) (result : Result Fate RunStop) (to : E) (after : FileSystem)
     → DoesNamed (over {F = F} h r w e) m n mode from before result to after → Steps h (IsOutput h r w) m.part m.output idle before idle after
 named h r w e m n mode from before result to after (spec.too_long none told i same) = quiet same
 named {I} {O} {F} h r w e m n mode from before result to after (spec.placed path is does) = placed {F = F} h r w e m n mode path n.relative (path_is m.output n.relative path is) from before result to after does
@@ -106,7 +106,7 @@ fills_by_instance {I} {O} {F} h r w e job m name bits input output new from befo
     goes_on (is_filled h r w m.part m.output bits job input output before ending was_filled new fills is)
     (names_part {F = F} h r w e m name (h.took fills.written) (ending_fate ending) told was_filled done to after names)
 
-by_instance : {I O F E : Type 0} (h : Host I O) (r : Reader I) (w : Writer O) (e : Writer E) (job : Job) (m : Manner) (n : Named) (mode : ℕ) (from : E) (before : FileSystem) (result : Result Done PartThere) (to : E) (after : FileSystem)
+by_instance : {I O F E : Type 0} (h : Host I O) (r : Reader I) (w : Writer O) (e : Writer E) (job : Job) (m : Manner) (n : Named) (mode : ℕ) (from : E) (before : FileSystem) (result : Result Done RunStop) (to : E) (after : FileSystem)
     → DoesByInstance (over {F = F} h r w e) job m n mode from before result to after → Steps h (IsOutput h r w) m.part m.output idle before idle after
 by_instance {I} h r w e job m n mode from before result to after (instance.not_opened opens told i) = quiet (opens_file {I = I} h n.path before None after opens)
 by_instance {I} {O} {F} h r w e job m n mode from before result to after (instance.no_part input cause opened tried opens makes back ends) =
@@ -116,7 +116,7 @@ by_instance {I} {O} {F} h r w e job m n mode from before result to after (instan
     (goes_on (part_is_made {F = F} h (IsOutput h r w) m.part m.output mode opened output made makes)
     (fills_by_instance {F = F} h r w e job m n.name mode input output (part_is_new {F = F} h m.part mode opened output made makes) from made done to after fills))
 
-unnamed : {I O F E : Type 0} (h : Host I O) (r : Reader I) (w : Writer O) (e : Writer E) (m : Manner) (n : Named) (mode : ℕ) (from : E) (before : FileSystem) (result : Result Done PartThere) (to : E) (after : FileSystem)
+unnamed : {I O F E : Type 0} (h : Host I O) (r : Reader I) (w : Writer O) (e : Writer E) (m : Manner) (n : Named) (mode : ℕ) (from : E) (before : FileSystem) (result : Result Done RunStop) (to : E) (after : FileSystem)
     → DoesUnnamed (over {F = F} h r w e) m n mode from before result to after → Steps h (IsOutput h r w) m.part m.output idle before idle after
 unnamed h r w e m n mode from before result to after (instance.no_days cause f told i) = quiet (finds_job h r m.task n.path before (Err cause) after f)
 unnamed {I} {O} {F} h r w e m n mode from before result to after (instance.has_job job mid f does) =
@@ -124,13 +124,13 @@ unnamed {I} {O} {F} h r w e m n mode from before result to after (instance.has_j
 
 -- ---- a name
 
-file : {I O F E : Type 0} (h : Host I O) (r : Reader I) (w : Writer O) (e : Writer E) (m : Manner) (n : Named) (mode : ℕ) (from : E) (before : FileSystem) (result : Result Done PartThere) (to : E) (after : FileSystem)
+file : {I O F E : Type 0} (h : Host I O) (r : Reader I) (w : Writer O) (e : Writer E) (m : Manner) (n : Named) (mode : ℕ) (from : E) (before : FileSystem) (result : Result Done RunStop) (to : E) (after : FileSystem)
     → DoesFile (over {F = F} h r w e) m n mode from before result to after → Steps h (IsOutput h r w) m.part m.output idle before idle after
 file h r w e m n mode from before result to after (spec.an_index is told i same) = quiet same
 file {I} {O} {F} h r w e m n mode from before result to after (spec.keeps_name became is keeps does i) = named {F = F} h r w e m n mode from before became to after does
 file {I} {O} {F} h r w e m n mode from before result to after (spec.by_instance is keeps does) = unnamed {F = F} h r w e m n mode from before result to after does
 
-pub does_name : {I O F E : Type 0} (h : Host I O) (r : Reader I) (w : Writer O) (e : Writer E) (m : Manner) (n : Named) (what : What) (from : E) (before : FileSystem) (result : Result Done PartThere) (to : E) (after : FileSystem)
+pub does_name : {I O F E : Type 0} (h : Host I O) (r : Reader I) (w : Writer O) (e : Writer E) (m : Manner) (n : Named) (what : What) (from : E) (before : FileSystem) (result : Result Done RunStop) (to : E) (after : FileSystem)
     → DoesName (over {F = F} h r w e) m n what from before result to after → Steps h (IsOutput h r w) m.part m.output idle before idle after
 does_name {I} {O} {F} h r w e m n what from before result to after (spec.a_file mode is does) = file {F = F} h r w e m n mode from before result to after does
 does_name h r w e m n what from before result to after (spec.no_file other told i same) = quiet same

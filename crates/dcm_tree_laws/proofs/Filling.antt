@@ -35,19 +35,22 @@ pub part_is_made : {I O F : Type 0} (h : Host I O) (IsWhole : ℕ → List ℕ �
 part_is_made h IsWhole part output mode before o after (spec.no_text t is same) = absurd (cc)
 part_is_made h IsWhole part output mode before o after (spec.made opened t call is) = one (part_made mode refl call.0 refl)
 part_is_made h IsWhole part output mode before o after (spec.is_there e t call k is) = absurd (cc)
-part_is_made h IsWhole part output mode before o after (spec.not_made e t call k is) = absurd (cc)
+part_is_made h IsWhole part output mode before o after (spec.no_memory e t call k is) = absurd (cc)
+part_is_made h IsWhole part output mode before o after (spec.not_made e t call k m is) = absurd (cc)
 
 pub part_is_not_made : {I O F : Type 0} (h : Host I O) (part : List ℕ) (mode : ℕ) (before : FileSystem) (cause : NoPart) (after : FileSystem) → MakesPart (folders_do {F = F} h) part mode before (Err cause) after → after ≡ before
 part_is_not_made h part mode before cause after (spec.no_text t is same) = same
 part_is_not_made h part mode before cause after (spec.made opened t call is) = absurd (cc)
 part_is_not_made h part mode before cause after (spec.is_there e t call k is) = call.0
-part_is_not_made h part mode before cause after (spec.not_made e t call k is) = call.0
+part_is_not_made h part mode before cause after (spec.no_memory e t call k is) = call.0
+part_is_not_made h part mode before cause after (spec.not_made e t call k m is) = call.0
 
 pub part_is_new : {I O F : Type 0} (h : Host I O) (part : List ℕ) (mode : ℕ) (before : FileSystem) (o : O) (after : FileSystem) → MakesPart (folders_do {F = F} h) part mode before (Ok o) after → h.took o ≡ []
 part_is_new h part mode before o after (spec.no_text t is same) = absurd (cc)
 part_is_new h part mode before o after (spec.made opened t call is) = ap h.took (same_ok (Ok o) opened.device o is refl) ∙ call.1
 part_is_new h part mode before o after (spec.is_there e t call k is) = absurd (cc)
-part_is_new h part mode before o after (spec.not_made e t call k is) = absurd (cc)
+part_is_new h part mode before o after (spec.no_memory e t call k is) = absurd (cc)
+part_is_new h part mode before o after (spec.not_made e t call k m is) = absurd (cc)
 
 -- ---- the job
 

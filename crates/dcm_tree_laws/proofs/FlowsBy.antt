@@ -185,7 +185,7 @@ and_visited h r w e m shared start from told_before before n what result to told
     and_visit earlier (visit_of n what) from.status from.is_empty before done.fate (had (sym (ap (λ p. p.stop) is) ∙ stop)) (make done mid does) more (ap (λ p. p.status) is) (ap (λ p. p.is_empty) is)
 and_visited h r w e m shared start from told_before before n what result to told after earlier visits more share make (spec.was_done done mid own does (spec.no_row manifest failure s puts t is ok)) stop had =
     absurd (no_stop to.stop _ (ap (λ p. p.stop) is) stop)
-and_visited h r w e m shared start from told_before before n what result to told after earlier visits more share make (spec.part_there p s own does is ok) stop had = absurd (no_stop to.stop _ (ap (λ q. q.stop) is) stop)
+and_visited h r w e m shared start from told_before before n what result to told after earlier visits more share make (spec.ends_run p s own does is ok) stop had = absurd (no_stop to.stop _ (ap (λ q. q.stop) is) stop)
 
 -- what is so after each of them, by what they share
 record Kept {I O : Type 0} (h : Host I O) (w : Writer O) (start : FileSystem) (visits : List Visit) (stop : Option Stop) (status : ℕ) (is_empty : Bool) (s : FileSystem) (shared : Shared) : Type 0 where

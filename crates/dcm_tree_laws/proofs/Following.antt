@@ -159,7 +159,7 @@ module _ {I O F W E : Type 0} (h : Host I O) (r : Reader I) (w : Writer O) (m : 
     visit_told others x from told_before before n what result to told after none since has has_x stop it is (spec.was_done done mid share does ends) =
         subst (λ (b : Bool). IsTold after.now x (behind same became (done_if b others (visit_of n what)) x)) (sym share)
         (following.follows (Of shared) known.number known.part_is known.keeps_is output_is task_is goes others x n what told_before before done mid after none since has has_x it is does)
-    visit_told others x from told_before before n what result to told after none since has has_x stop it is (spec.part_there p s share does t ok) = absurd (no_stop to.stop _ (ap (λ q. q.stop) t) stop)
+    visit_told others x from told_before before n what result to told after none since has has_x stop it is (spec.ends_run p s share does t ok) = absurd (no_stop to.stop _ (ap (λ q. q.stop) t) stop)
 
     visit_row : (others : List Visit) (text : List ℕ) (headed : W) (from : Progress W) (told_before : E) (before : FileSystem) (n : Named) (what : What) (result : Result (Unit {0}) Stopped) (to : Progress W) (told : E) (after : FileSystem) → before.written ≡ None → to.stop ≡ None
         → IsTold before.now (visit_of n what) (behind same became others (visit_of n what)) → m.contents from.manifest ≡ append_known (m.contents headed) text → VisitsName (working {F = F} h r w e) m shared from told_before before n what result to told after
@@ -174,7 +174,7 @@ module _ {I O F W E : Type 0} (h : Host I O) (r : Reader I) (w : Writer O) (m : 
         (ap (λ (p : Progress W). m.contents p.manifest) is ∙ one_more m from.manifest manifest headed text line (went_out m line from.manifest manifest puts) had
         ∙ ap (λ (l : List ℕ). append_known (m.contents headed) (text ++ l)) (row_as (visit_of n what) done (behind same became others (visit_of n what)) its ∙ sym (append-nil (row_of (behind same became others) (visit_of n what)))))
     visit_row others text headed from told_before before n what result to told after none stop it had (spec.was_done done mid share does (spec.no_row manifest failure s puts t is ok)) = absurd (no_stop to.stop _ (ap (λ p. p.stop) is) stop)
-    visit_row others text headed from told_before before n what result to told after none stop it had (spec.part_there p s share does t ok) = absurd (no_stop to.stop _ (ap (λ q. q.stop) t) stop)
+    visit_row others text headed from told_before before n what result to told after none stop it had (spec.ends_run p s share does t ok) = absurd (no_stop to.stop _ (ap (λ q. q.stop) t) stop)
 
     visits_good : (others : List Visit) (headed : W) (start : FileSystem) → KeepsAll h folder first start.now → VisitsDo (StaysGood h m folder IsTold visits same became others shared headed start) (noted (visits_of (working {F = F} h r w e) m))
     visits_good others headed start since from before n what result to after v good =

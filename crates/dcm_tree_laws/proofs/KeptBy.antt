@@ -14,7 +14,7 @@ use Rattle.dcm_cli.specs.Calls.{Reader}
 use Rattle.dcm_trees.specs.declared.fate.Fate.{Fate}
 use Rattle.dcm_trees.specs.declared.fate.Fate.TheVariants as fates
 use Rattle.dcm_trees.specs.declared.file.Done.{Done}
-use Rattle.dcm_trees.specs.declared.part.PartThere.{PartThere}
+use Rattle.dcm_trees.specs.declared.progress.Stop.{Stop as RunStop}
 use Rattle.dcm_trees.specs.declared.progress.Shared.{Shared}
 use Rattle.dcm_trees.specs.declared.progress.Stop.{Stop}
 use Rattle.dcm_trees.specs.declared.progress.Work.{Work}
@@ -86,7 +86,7 @@ free_as h output relative t u same free = record {
 by_both : (first : Done) → fate_again first.fate ≡ fates.There → first.instance ≡ None → again first ≡ left_there
 by_both first is none = ap (λ (f : Fate). record first { fate = f }) is ∙ ap (λ (i : _). record left_there { instance = i }) none
 
-there_again : {I O F E : Type 0} (h : Host I O) (r : Reader I) (w : Writer O) (e : Writer E) (k : Manner) (n : Named) (mode : ℕ) (first : Done) (from : E) (before : FileSystem) (result : Result Done PartThere) (to : E) (after : FileSystem) → k.continues ≡ true → k.keeps_names ≡ true → is_media_index n.relative ≡ false
+there_again : {I O F E : Type 0} (h : Host I O) (r : Reader I) (w : Writer O) (e : Writer E) (k : Manner) (n : Named) (mode : ℕ) (first : Done) (from : E) (before : FileSystem) (result : Result Done RunStop) (to : E) (after : FileSystem) → k.continues ≡ true → k.keeps_names ≡ true → is_media_index n.relative ≡ false
     → fate_again first.fate ≡ fates.There → first.instance ≡ None → IsThere h k.output n.relative before.now → DoesFile (working {F = F} h r w e) k n mode from before result to after → StandsAgain n first before result after
 there_again {I} {O} {F} {E} h r w e k n mode first from before result to after goes keeps index written none there does =
     let sure_it : DoesName (over_sure {F = F} h (as_whole h r) w e) k n (File mode) from before result to after =
@@ -99,7 +99,7 @@ there_again {I} {O} {F} {E} h r w e k n mode first from before result to after g
           record { output_is = ap (output_of n) its; word_is = ap (λ (d : Done). word d.fate) its };
     }
 
-file_again : {I O F E : Type 0} (h : Host I O) (r : Reader I) (w : Writer O) (e : Writer E) (k : Manner) (n : Named) (what : What) (first : Done) (start : Tree) (mode : ℕ) (from : E) (before : FileSystem) (result : Result Done PartThere) (to : E) (after : FileSystem) → Known h w k start before.now
+file_again : {I O F E : Type 0} (h : Host I O) (r : Reader I) (w : Writer O) (e : Writer E) (k : Manner) (n : Named) (what : What) (first : Done) (start : Tree) (mode : ℕ) (from : E) (before : FileSystem) (result : Result Done RunStop) (to : E) (after : FileSystem) → Known h w k start before.now
     → at_path h before.now k.part ≡ None → KeptStands h k.task k.output start (visit_of n what) first → what ≡ File mode → DoesFile (working {F = F} h r w e) k n mode from before result to after → after.unremoved ≡ false → StandsAgain n first before result after
 file_again {I} {O} {F} h r w e k n what first start mode from before result to after x none (kept_there other is index written nameless there) file does gone =
     there_again {F = F} h r w e k n mode first from before result to after x.goes x.keeps index written nameless (there_stays h k.part k.output n.relative start before.now x.none x.still there) does
@@ -125,7 +125,7 @@ no_file_first h task output t n what first other (kept_without mode is index f w
 no_file_first h task output t n what first other (kept_index mode is index d) = absurd (other mode is)
 no_file_first h task output t n what first other (kept_no_file others d) = d
 
-name_again : {I O F E : Type 0} (h : Host I O) (r : Reader I) (w : Writer O) (e : Writer E) (k : Manner) (n : Named) (what : What) (first : Done) (start : Tree) (from : E) (before : FileSystem) (result : Result Done PartThere) (to : E) (after : FileSystem) → Known h w k start before.now → at_path h before.now k.part ≡ None
+name_again : {I O F E : Type 0} (h : Host I O) (r : Reader I) (w : Writer O) (e : Writer E) (k : Manner) (n : Named) (what : What) (first : Done) (start : Tree) (from : E) (before : FileSystem) (result : Result Done RunStop) (to : E) (after : FileSystem) → Known h w k start before.now → at_path h before.now k.part ≡ None
     → KeptStands h k.task k.output start (visit_of n what) first → DoesName (working {F = F} h r w e) k n what from before result to after → after.unremoved ≡ false → StandsAgain n first before result after
 name_again {I} {O} {F} h r w e k n what first start from before result to after x none stands (files.a_file mode is does) gone = file_again {F = F} h r w e k n what first start mode from before result to after x none stands is does gone
 name_again h r w e k n what first start from before result to after x none stands (files.no_file other told ok same) gone = no_file_again n what first before result after other same ok (no_file_first h k.task k.output start n what first other stands)
@@ -136,7 +136,7 @@ visit_same : {I O F W E : Type 0} (h : Host I O) (r : Reader I) (w : Writer O) (
 visit_same h r w e m shared start from told_before before n what result to told after x none stands (spec.of_another not is t same ok) gone = same_now before after same
 visit_same {I} {O} {F} h r w e m shared start from told_before before n what result to told after x none stands (spec.was_done done mid share does ends) gone =
     (name_again {F = F} h r w e (manner_of shared.manner) n what (stands share).0 start told_before before (Ok done) mid after x none (stands share).1 does gone).same
-visit_same {I} {O} {F} h r w e m shared start from told_before before n what result to told after x none stands (spec.part_there p s share does is ok) gone =
+visit_same {I} {O} {F} h r w e m shared start from told_before before n what result to told after x none stands (spec.ends_run p s share does is ok) gone =
     (name_again {F = F} h r w e (manner_of shared.manner) n what (stands share).0 start told_before before (Err p) told after x none (stands share).1 does gone).same
 
 -- ---- the rows so far
@@ -173,7 +173,7 @@ rows_if h r w e m shared headed Is IsSo from told_before before n what result to
     }
 rows_if h r w e m shared headed Is IsSo from told_before before n what result to told after earlier visits make more (spec.was_done done mid share does (spec.no_row manifest failure s puts t is ok)) stop had =
     absurd (no_stop to.stop _ (ap (λ p. p.stop) is) stop)
-rows_if h r w e m shared headed Is IsSo from told_before before n what result to told after earlier visits make more (spec.part_there p s share does is ok) stop had = absurd (no_stop to.stop _ (ap (λ q. q.stop) is) stop)
+rows_if h r w e m shared headed Is IsSo from told_before before n what result to told after earlier visits make more (spec.ends_run p s share does is ok) stop had = absurd (no_stop to.stop _ (ap (λ q. q.stop) is) stop)
 
 -- ---- all names
 

@@ -9,7 +9,7 @@ use Rattle.dcm_words.specs.Words.{Job}
 use Rattle.dcm_cli.specs.Calls.{Reader}
 use Rattle.dcm_trees.specs.declared.fate.Fate.{Fate}
 use Rattle.dcm_trees.specs.declared.file.Done.{Done}
-use Rattle.dcm_trees.specs.declared.part.PartThere.{PartThere}
+use Rattle.dcm_trees.specs.declared.progress.Stop.{Stop as RunStop}
 use Rattle.dcm_trees.specs.Fate.{is_written}
 use Rattle.dcm_trees.specs.File as files
 use Rattle.dcm_trees.specs.File.{DoesReady, DoesFree, DoesPlaced, DoesNamed, DoesFile, is_media_index, under_its_name}
@@ -51,7 +51,7 @@ not_by done fate is not = sym (ap (λ (d : Done). is_written d.fate) is) ∙ not
 
 module _ {I O E : Type 0} (F : Type 0) (h : Host I O) (r : Reader I) (w : Writer O) (e : Writer E) (all : GivesAll h (as_whole h r) w) (m : Manner) (text : IsUtf8 m.part) where
   -- it has its fate again
-  record IsAgain (done : Done) (before : FileSystem) (result : Result Fate PartThere) (after : FileSystem) : Type 0 where
+  record IsAgain (done : Done) (before : FileSystem) (result : Result Fate RunStop) (after : FileSystem) : Type 0 where
     fate : Fate
     is : result ≡ Ok fate
     done_is : done ≡ its_own fate
@@ -79,10 +79,10 @@ module _ {I O E : Type 0} (F : Type 0) (h : Host I O) (r : Reader I) (w : Writer
       let its : done ≡ its_own (ending_fate ending) = fate_again m.task held done (ending_fate ending) without (by_verdict m.task held (h.took f.written) job (ending_fate ending) ending of_job refl d) in
       true_false (is_written (ending_fate ending)) is (not_by done (ending_fate ending) its without.not)
 
-  again_by : (done : Done) (before opened : FileSystem) (result : Result Fate PartThere) (fate : Fate) (after : FileSystem) → opened ≡ before → result ≡ Ok fate → IsFilled done opened fate after → IsAgain done before result after
+  again_by : (done : Done) (before opened : FileSystem) (result : Result Fate RunStop) (fate : Fate) (after : FileSystem) → opened ≡ before → result ≡ Ok fate → IsFilled done opened fate after → IsAgain done before result after
   again_by done before opened result fate after same is x = record { fate = fate; is = is; done_is = x.done_is; same = subst (λ (s : FileSystem). IsAsItWas s.now after.now) same x.same }
 
-  ready : (job : Job) (n : Named) (mode : ℕ) (path : List ℕ) (done : Done) (from : E) (s : FileSystem) (result : Result Fate PartThere) (to : E) (after : FileSystem) → at_path h s.now m.part ≡ None → IsUtf8 n.path → (f : FileAt h Followed s.now n.path) → IsJobOf m.task (s.now.bytes (number_of f.file)) job
+  ready : (job : Job) (n : Named) (mode : ℕ) (path : List ℕ) (done : Done) (from : E) (s : FileSystem) (result : Result Fate RunStop) (to : E) (after : FileSystem) → at_path h s.now m.part ≡ None → IsUtf8 n.path → (f : FileAt h Followed s.now n.path) → IsJobOf m.task (s.now.bytes (number_of f.file)) job
       → EndsWithout m.task (s.now.bytes (number_of f.file)) done → after.unremoved ≡ false → DoesReady (working {F = F} h r w e) job m n mode path from s result to after → IsAgain done s result after
   ready job n mode path done from s result to after none own f of_job without gone (files.not_opened opens told is) = not_unopened h r w n.path s after own f opens
   ready job n mode path done from s result to after none own f of_job without gone (files.no_part input cause opened tried opens makes back tells) =
@@ -96,7 +96,7 @@ module _ {I O E : Type 0} (F : Type 0) (h : Host I O) (r : Reader I) (w : Writer
       again_by done s opened result fate after o.same is
       (filled job n.name path mode input output (s.now.bytes (number_of f.file)) done from opened made fate to after here part.makes (ap h.took (same_ok (Ok output) part.output output part.is refl) ∙ part.new) o.sound o.holds of_job without gone fills)
 
-  free : (n : Named) (mode : ℕ) (path : List ℕ) (done : Done) (from : E) (s : FileSystem) (result : Result Fate PartThere) (to : E) (after : FileSystem) → at_path h s.now m.part ≡ None → IsUtf8 n.path → (f : FileAt h Followed s.now n.path) → EndsWithout m.task (s.now.bytes (number_of f.file)) done
+  free : (n : Named) (mode : ℕ) (path : List ℕ) (done : Done) (from : E) (s : FileSystem) (result : Result Fate RunStop) (to : E) (after : FileSystem) → at_path h s.now m.part ≡ None → IsUtf8 n.path → (f : FileAt h Followed s.now n.path) → EndsWithout m.task (s.now.bytes (number_of f.file)) done
       → after.unremoved ≡ false → DoesFree (working {F = F} h r w e) m n mode path from s result to after → IsAgain done s result after
   free n mode path done from s result to after none own f without gone (files.no_days cause finds told is) =
       let same : after ≡ s = jobs.finds_job h (as_whole h r) m.task n.path s (Err cause) after (works.finds_job (working_may h r w (may_do h)) (may_do h) (working_also h r w) (as_whole h r) m.task n.path s (Err cause) after finds) in
@@ -110,7 +110,7 @@ module _ {I O E : Type 0} (F : Type 0) (h : Host I O) (r : Reader I) (w : Writer
       let same : mid ≡ s = jobs.finds_job h (as_whole h r) m.task n.path s (Ok job) mid (works.finds_job (working_may h r w (may_do h)) (may_do h) (working_also h r w) (as_whole h r) m.task n.path s (Ok job) mid finds) in
       ready job n mode path done from s result to after none own f (job_found h r w all m.task n.path s (Ok job) mid own f finds) without gone (subst (λ (t : FileSystem). DoesReady (working {F = F} h r w e) job m n mode path from t result to after) same does)
 
-  placed : (n : Named) (mode : ℕ) (path : List ℕ) (done : Done) (from : E) (s : FileSystem) (result : Result Fate PartThere) (to : E) (after : FileSystem) → path ≡ below m.output n.relative → at_path h s.now m.part ≡ None → IsUtf8 n.path → (f : FileAt h Followed s.now n.path)
+  placed : (n : Named) (mode : ℕ) (path : List ℕ) (done : Done) (from : E) (s : FileSystem) (result : Result Fate RunStop) (to : E) (after : FileSystem) → path ≡ below m.output n.relative → at_path h s.now m.part ≡ None → IsUtf8 n.path → (f : FileAt h Followed s.now n.path)
       → EndsWithout m.task (s.now.bytes (number_of f.file)) done → IsFree h m.output n.relative s.now → after.unremoved ≡ false → DoesPlaced (working {F = F} h r w e) m n mode path from s result to after → IsAgain done s result after
   placed n mode path done from s result to after is none own f without still_free gone (files.not_free place found nf told ok) =
       true_false (is_free place) (finds_free {F = F} h m.output n.relative path is s place after still_free (sures.finds (Works {F = F} h) (sure (folders_do {F = F} h)) (working_sure {F = F} h).sees path (length m.output + 1) s place after found)) nf
@@ -118,15 +118,15 @@ module _ {I O E : Type 0} (F : Type 0) (h : Host I O) (r : Reader I) (w : Writer
       let same : looked ≡ s = finds (sure (folders_do {F = F} h)) (sure_quiet h) path (length m.output + 1) s place looked (sures.finds (Works {F = F} h) (sure (folders_do {F = F} h)) (working_sure {F = F} h).sees path (length m.output + 1) s place looked found) in
       free n mode path done from s result to after none own f without gone (subst (λ (t : FileSystem). DoesFree (working {F = F} h r w e) m n mode path from t result to after) same does)
 
-  named : (n : Named) (mode : ℕ) (done : Done) (from : E) (s : FileSystem) (result : Result Fate PartThere) (to : E) (after : FileSystem) → at_path h s.now m.part ≡ None → IsUtf8 n.path → (f : FileAt h Followed s.now n.path) → EndsWithout m.task (s.now.bytes (number_of f.file)) done
+  named : (n : Named) (mode : ℕ) (done : Done) (from : E) (s : FileSystem) (result : Result Fate RunStop) (to : E) (after : FileSystem) → at_path h s.now m.part ≡ None → IsUtf8 n.path → (f : FileAt h Followed s.now n.path) → EndsWithout m.task (s.now.bytes (number_of f.file)) done
       → IsFree h m.output n.relative s.now → after.unremoved ≡ false → DoesNamed (working {F = F} h r w e) m n mode from s result to after → IsAgain done s result after
   named n mode done from s result to after none own f without still_free gone (files.too_long long told ok same) = absurd (too_long m.output n.relative still_free.fits long)
   named n mode done from s result to after none own f without still_free gone (files.placed path at does) = placed n mode path done from s result to after (path_is m.output n.relative path at) none own f without still_free gone does
 
-  by_name : (done : Done) (s : FileSystem) (became : Result Fate PartThere) (result : Result Done PartThere) (after : FileSystem) → result ≡ under_its_name became → IsAgain done s became after → IsWithoutAgain done s result after
+  by_name : (done : Done) (s : FileSystem) (became : Result Fate RunStop) (result : Result Done RunStop) (after : FileSystem) → result ≡ under_its_name became → IsAgain done s became after → IsWithoutAgain done s result after
   by_name done s became result after is x = record { row = is ∙ ap under_its_name x.is ∙ ap Ok (sym x.done_is); same = x.same }
 
-  pub file_without : (n : Named) (mode : ℕ) (done : Done) (from : E) (s : FileSystem) (result : Result Done PartThere) (to : E) (after : FileSystem) → m.keeps_names ≡ true → is_media_index n.relative ≡ false → at_path h s.now m.part ≡ None → IsUtf8 n.path → (f : FileAt h Followed s.now n.path)
+  pub file_without : (n : Named) (mode : ℕ) (done : Done) (from : E) (s : FileSystem) (result : Result Done RunStop) (to : E) (after : FileSystem) → m.keeps_names ≡ true → is_media_index n.relative ≡ false → at_path h s.now m.part ≡ None → IsUtf8 n.path → (f : FileAt h Followed s.now n.path)
       → EndsWithout m.task (s.now.bytes (number_of f.file)) done → IsFree h m.output n.relative s.now → after.unremoved ≡ false → DoesFile (working {F = F} h r w e) m n mode from s result to after → IsWithoutAgain done s result after
   file_without n mode done from s result to after keeps no_index none own f without still_free gone (files.an_index index told is same) = true_false (is_media_index n.relative) index no_index
   file_without n mode done from s result to after keeps no_index none own f without still_free gone (files.keeps_name became index kept does is) =

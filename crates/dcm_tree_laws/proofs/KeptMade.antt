@@ -16,7 +16,7 @@ use Rattle.dcm_trees.specs.declared.file.Done.{Done}
 use Rattle.dcm_trees.specs.declared.part.Naming.{Naming}
 use Rattle.dcm_trees.specs.declared.part.Naming.TheVariants.{Linked, Moved, NotFree, Failed}
 use Rattle.dcm_trees.specs.declared.part.NoPart.{NoPart}
-use Rattle.dcm_trees.specs.declared.part.PartThere.{PartThere}
+use Rattle.dcm_trees.specs.declared.progress.Stop.{Stop as RunStop}
 use Rattle.dcm_trees.specs.declared.place.Place.{Place}
 use Rattle.dcm_trees.specs.declared.place.Place.TheVariants as spots
 use Rattle.dcm_trees.specs.File as files
@@ -67,8 +67,8 @@ pub data How {I O : Type 0} (h : Host I O) (m : Manner) (relative bytes : List �
 never : {I O : Type 0} (h : Host I O) (m : Manner) (relative bytes : List ℕ) (fate other : Fate) (now : Tree) → fate ≡ other → is_settled other ≡ false → How h m relative bytes fate now
 never h m relative bytes fate other now is not = unsettled (ap is_settled is ∙ not)
 
-tells_so : {E : Type 0} (e : Writer E) (name : List ℕ) (cause : NoPart) (from : E) (result : Result Fate PartThere) (to : E) (fate : Fate) → TellsNoPart e name cause from result to → result ≡ Ok fate → fate ≡ fates.Unwritten
-tells_so e name cause from result to fate (parts.of_another p c t is) ok = absurd (not_ok result p fate is ok)
+tells_so : {E : Type 0} (e : Writer E) (name : List ℕ) (cause : NoPart) (from : E) (result : Result Fate RunStop) (to : E) (fate : Fate) → TellsNoPart e name cause from result to → result ≡ Ok fate → fate ≡ fates.Unwritten
+tells_so e name cause from result to fate (parts.ends_run p c t is) ok = absurd (not_ok result p fate is ok)
 tells_so e name cause from result to fate (parts.told c t is) ok = same_ok result fates.Unwritten fate is ok
 
 fits_if : (b : Bool) (path other : List ℕ) → (if b then Some path else None) ≡ Some other → b ≡ true
@@ -159,7 +159,7 @@ module _ {I O E : Type 0} (F : Type 0) (h : Host I O) (r : Reader I) (w : Writer
       (is_filled_as h IsHeld (as_whole h r) w m.part m.output (h.masked mode) job input output made ending was_filled (works.fills (working_may h r w (may_do h)) (may_do h) (working_also h r w) (as_whole h r) w job input output made ending was_filled f) refl)) in
       named_how job name relative path bytes (h.took f.written) ending told opened was_filled fate to after is fits of_job d is_whole names apart names.naming refl
 
-  ready_how : (job : Job) (n : Named) (mode : ℕ) (path : List ℕ) (from : E) (s : FileSystem) (result : Result Fate PartThere) (to : E) (after : FileSystem) (fate : Fate) → path ≡ below m.output n.relative → nat_le (length (below m.output n.relative)) PATH_LIMIT ≡ true → s.written ≡ None → IsUtf8 n.path
+  ready_how : (job : Job) (n : Named) (mode : ℕ) (path : List ℕ) (from : E) (s : FileSystem) (result : Result Fate RunStop) (to : E) (after : FileSystem) (fate : Fate) → path ≡ below m.output n.relative → nat_le (length (below m.output n.relative)) PATH_LIMIT ≡ true → s.written ≡ None → IsUtf8 n.path
       → (f : FileAt h Followed s.now n.path) → IsJobOf m.task (s.now.bytes (number_of f.file)) job → DoesReady (working {F = F} h r w e) job m n mode path from s result to after → result ≡ Ok fate → Apart n.relative fate → How h m n.relative (s.now.bytes (number_of f.file)) fate after.now
   ready_how job n mode path from s result to after fate is fits none text f of_job (files.not_opened opens told so) ok apart = not_unopened h r w n.path s after text f opens
   ready_how job n mode path from s result to after fate is fits none text f of_job (files.no_part input cause opened tried opens makes back tells) ok apart =
@@ -170,7 +170,7 @@ module _ {I O E : Type 0} (F : Type 0) (h : Host I O) (r : Reader I) (w : Writer
       subst (λ (x : Fate). How h m n.relative (s.now.bytes (number_of f.file)) x after.now) (sym same)
       (filled_how job n.name n.relative path mode input output (s.now.bytes (number_of f.file)) from opened made became to after is fits (ap (λ (t : FileSystem). t.written) o.same ∙ none) makes o.sound o.holds of_job fills (subst (Apart n.relative) same apart))
 
-  free_how : (n : Named) (mode : ℕ) (path : List ℕ) (from : E) (s : FileSystem) (result : Result Fate PartThere) (to : E) (after : FileSystem) (fate : Fate) → path ≡ below m.output n.relative → nat_le (length (below m.output n.relative)) PATH_LIMIT ≡ true → s.written ≡ None → IsUtf8 n.path
+  free_how : (n : Named) (mode : ℕ) (path : List ℕ) (from : E) (s : FileSystem) (result : Result Fate RunStop) (to : E) (after : FileSystem) (fate : Fate) → path ≡ below m.output n.relative → nat_le (length (below m.output n.relative)) PATH_LIMIT ≡ true → s.written ≡ None → IsUtf8 n.path
       → (f : FileAt h Followed s.now n.path) → DoesFree (working {F = F} h r w e) m n mode path from s result to after → result ≡ Ok fate → Apart n.relative fate → How h m n.relative (s.now.bytes (number_of f.file)) fate after.now
   free_how n mode path from s result to after fate is fits none text f (files.no_days cause finds told so) ok apart =
       by_bytes (no_job_by m.task (s.now.bytes (number_of f.file)) fate cause (same_ok result (no_days_fate cause) fate so ok) (job_found h r w all m.task n.path s (Err cause) after text f finds))
@@ -178,7 +178,7 @@ module _ {I O E : Type 0} (F : Type 0) (h : Host I O) (r : Reader I) (w : Writer
       let same : mid ≡ s = jobs.finds_job h (as_whole h r) m.task n.path s (Ok job) mid (works.finds_job (working_may h r w (may_do h)) (may_do h) (working_also h r w) (as_whole h r) m.task n.path s (Ok job) mid finds) in
       ready_how job n mode path from s result to after fate is fits none text f (job_found h r w all m.task n.path s (Ok job) mid text f finds) (subst (λ (t : FileSystem). DoesReady (working {F = F} h r w e) job m n mode path from t result to after) same does) ok apart
 
-  placed_how : (n : Named) (mode : ℕ) (path : List ℕ) (from : E) (s : FileSystem) (result : Result Fate PartThere) (to : E) (after : FileSystem) (fate : Fate) → path ≡ below m.output n.relative → nat_le (length (below m.output n.relative)) PATH_LIMIT ≡ true → s.written ≡ None → at_path h s.now m.part ≡ None → IsUtf8 n.path
+  placed_how : (n : Named) (mode : ℕ) (path : List ℕ) (from : E) (s : FileSystem) (result : Result Fate RunStop) (to : E) (after : FileSystem) (fate : Fate) → path ≡ below m.output n.relative → nat_le (length (below m.output n.relative)) PATH_LIMIT ≡ true → s.written ≡ None → at_path h s.now m.part ≡ None → IsUtf8 n.path
       → (f : FileAt h Followed s.now n.path) → DoesPlaced (working {F = F} h r w e) m n mode path from s result to after → result ≡ Ok fate → Apart n.relative fate → How h m n.relative (s.now.bytes (number_of f.file)) fate after.now
   placed_how n mode path from s result to after fate is fits none nothing text f (files.not_free place found nf told so) ok apart =
       let seen = sures.finds (Works {F = F} h) (sure (folders_do {F = F} h)) (working_sure {F = F} h).sees path (length m.output + 1) s place after found in
@@ -190,7 +190,7 @@ module _ {I O E : Type 0} (F : Type 0) (h : Host I O) (r : Reader I) (w : Writer
       let same : looked ≡ s = finds (sure (folders_do {F = F} h)) (sure_quiet h) path (length m.output + 1) s place looked (sures.finds (Works {F = F} h) (sure (folders_do {F = F} h)) (working_sure {F = F} h).sees path (length m.output + 1) s place looked found) in
       free_how n mode path from s result to after fate is fits none text f (subst (λ (t : FileSystem). DoesFree (working {F = F} h r w e) m n mode path from t result to after) same does) ok apart
 
-  kept_how : (n : Named) (mode : ℕ) (from : E) (s : FileSystem) (became : Result Fate PartThere) (result : Result Done PartThere) (to : E) (after : FileSystem) (done : Done) → s.written ≡ None → at_path h s.now m.part ≡ None → IsUtf8 n.path → (f : FileAt h Followed s.now n.path)
+  kept_how : (n : Named) (mode : ℕ) (from : E) (s : FileSystem) (became : Result Fate RunStop) (result : Result Done RunStop) (to : E) (after : FileSystem) (done : Done) → s.written ≡ None → at_path h s.now m.part ≡ None → IsUtf8 n.path → (f : FileAt h Followed s.now n.path)
       → DoesNamed (working {F = F} h r w e) m n mode from s became to after → result ≡ under_its_name became → result ≡ Ok done → Apart n.relative done.fate → How h m n.relative (s.now.bytes (number_of f.file)) done.fate after.now
   kept_how n mode from s (Ok fate) result to after done none nothing text f (files.too_long long told so same) is ok apart =
       never h m n.relative (s.now.bytes (number_of f.file)) done.fate fates.Unwritten after.now (ap (λ (d : Done). d.fate) (same_ok result (record { fate = fate; instance = None }) done is ok) ∙ same_ok (Ok fate) fates.Unwritten fate so refl) refl
@@ -200,10 +200,10 @@ module _ {I O E : Type 0} (F : Type 0) (h : Host I O) (r : Reader I) (w : Writer
       (placed_how n mode path from s (Ok fate) to after fate (path_is m.output n.relative path at) (fits_if (nat_le (length (below m.output n.relative)) PATH_LIMIT) (below m.output n.relative) path at) none nothing text f does refl (subst (Apart n.relative) same apart))
   kept_how n mode from s (Err p) result to after done none nothing text f does is ok apart = absurd (no_done result p done is ok)
     where
-      no_done : (x : Result Done PartThere) (p : PartThere) (done : Done) → x ≡ Err p → x ≡ Ok done → ⊥
+      no_done : (x : Result Done RunStop) (p : RunStop) (done : Done) → x ≡ Err p → x ≡ Ok done → ⊥
       no_done x p done a b = absurd (cc)
 
-  pub file_how : (n : Named) (mode : ℕ) (from : E) (s : FileSystem) (result : Result Done PartThere) (to : E) (after : FileSystem) (done : Done) → m.keeps_names ≡ true → is_media_index n.relative ≡ false → s.written ≡ None → at_path h s.now m.part ≡ None → IsUtf8 n.path → (f : FileAt h Followed s.now n.path)
+  pub file_how : (n : Named) (mode : ℕ) (from : E) (s : FileSystem) (result : Result Done RunStop) (to : E) (after : FileSystem) (done : Done) → m.keeps_names ≡ true → is_media_index n.relative ≡ false → s.written ≡ None → at_path h s.now m.part ≡ None → IsUtf8 n.path → (f : FileAt h Followed s.now n.path)
       → DoesFile (working {F = F} h r w e) m n mode from s result to after → result ≡ Ok done → Apart n.relative done.fate → How h m n.relative (s.now.bytes (number_of f.file)) done.fate after.now
   file_how n mode from s result to after done keeps no_index none nothing text f (files.an_index index told is same) ok apart = true_false (is_media_index n.relative) index no_index
   file_how n mode from s result to after done keeps no_index none nothing text f (files.keeps_name became index kept does is) ok apart = kept_how n mode from s became result to after done none nothing text f does is ok apart

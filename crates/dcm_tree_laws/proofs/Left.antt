@@ -14,7 +14,7 @@ use Rattle.dcm_cli.specs.Calls.{Reader, Reports}
 use Rattle.dcm_trees.specs.declared.fate.Fate.{Fate}
 use Rattle.dcm_trees.specs.declared.fate.Fate.TheVariants.{There}
 use Rattle.dcm_trees.specs.declared.file.Done.{Done}
-use Rattle.dcm_trees.specs.declared.part.PartThere.{PartThere}
+use Rattle.dcm_trees.specs.declared.progress.Stop.{Stop as RunStop}
 use Rattle.dcm_trees.specs.declared.place.Place.{Place}
 use Rattle.dcm_trees.specs.declared.place.Place.TheVariants as place
 use Rattle.dcm_trees.specs.File as files
@@ -125,13 +125,13 @@ pub too_long : (output relative : List ℕ) → nat_le (length (below output rel
 too_long output relative fits none = no_path (nat_le (length (below output relative)) PATH_LIMIT) (below output relative) fits none
 
 -- how it is done where its path is short enough
-record Placed {I O E : Type 0} (F : Type 0) (h : Host I O) (r : Reader I) (w : Writer O) (e : Writer E) (m : Manner) (n : Named) (mode : ℕ) (path : List ℕ) (from : E) (before : FileSystem) (result : Result Fate PartThere) (to : E) (after : FileSystem) : Type 0 where
+record Placed {I O E : Type 0} (F : Type 0) (h : Host I O) (r : Reader I) (w : Writer O) (e : Writer E) (m : Manner) (n : Named) (mode : ℕ) (path : List ℕ) (from : E) (before : FileSystem) (result : Result Fate RunStop) (to : E) (after : FileSystem) : Type 0 where
   row : result ≡ Ok There
   told : Reports e from to []
   same : after ≡ before
   looked : DoesPlaced (only_looks {F = F} h r w e) m n mode path from before result to after
 
-placed_left : {I O F E : Type 0} (h : Host I O) (r : Reader I) (w : Writer O) (e : Writer E) (m : Manner) (n : Named) (mode : ℕ) (path : List ℕ) (from : E) (before : FileSystem) (result : Result Fate PartThere) (to : E) (after : FileSystem) → m.continues ≡ true
+placed_left : {I O F E : Type 0} (h : Host I O) (r : Reader I) (w : Writer O) (e : Writer E) (m : Manner) (n : Named) (mode : ℕ) (path : List ℕ) (from : E) (before : FileSystem) (result : Result Fate RunStop) (to : E) (after : FileSystem) → m.continues ≡ true
     → path ≡ below m.output n.relative → IsThere h m.output n.relative before.now → DoesPlaced (over_sure {F = F} h r w e) m n mode path from before result to after → Placed F h r w e m n mode path from before result to after
 placed_left {I} {O} {F} h r w e m n mode path from before result to after goes is there (files.not_free p f nf told ok) =
     let at : p ≡ place.There = finds_there {F = F} h m.output n.relative path before p after is there f in
@@ -147,7 +147,7 @@ placed_left {I} {O} {F} h r w e m n mode path from before result to after goes i
 true_false : {A : Type 0} (b : Bool) → b ≡ true → b ≡ false → A
 true_false b e f = absurd (cc)
 
-file_left : {I O F E : Type 0} (h : Host I O) (r : Reader I) (w : Writer O) (e : Writer E) (m : Manner) (n : Named) (mode : ℕ) (from : E) (before : FileSystem) (result : Result Done PartThere) (to : E) (after : FileSystem) → m.continues ≡ true → m.keeps_names ≡ true
+file_left : {I O F E : Type 0} (h : Host I O) (r : Reader I) (w : Writer O) (e : Writer E) (m : Manner) (n : Named) (mode : ℕ) (from : E) (before : FileSystem) (result : Result Done RunStop) (to : E) (after : FileSystem) → m.continues ≡ true → m.keeps_names ≡ true
     → is_media_index n.relative ≡ false → IsThere h m.output n.relative before.now → DoesFile (over_sure {F = F} h r w e) m n mode from before result to after → IsLeft F h r w e m n mode from before result to after
 file_left h r w e m n mode from before result to after goes keeps no_index there (files.an_index index told ok same) = true_false (is_media_index n.relative) index no_index
 file_left h r w e m n mode from before result to after goes keeps no_index there (files.by_instance index not does) = true_false m.keeps_names keeps not

@@ -10,7 +10,7 @@ use Rattle.dcm_cli.specs.Calls.{Reader}
 use Rattle.dcm_trees.specs.declared.fate.Fate.{Fate}
 use Rattle.dcm_trees.specs.declared.fate.Fate.TheVariants as fates
 use Rattle.dcm_trees.specs.declared.file.Done.{Done}
-use Rattle.dcm_trees.specs.declared.part.PartThere.{PartThere}
+use Rattle.dcm_trees.specs.declared.progress.Stop.{Stop as RunStop}
 use Rattle.dcm_trees.specs.declared.progress.Shared.{Shared}
 use Rattle.dcm_trees.specs.declared.progress.Work.{Work}
 use Rattle.dcm_trees.specs.declared.run.TreeRun.{TreeRun}
@@ -89,17 +89,17 @@ fits_if : (b : Bool) (path other : List ℕ) → (if b then Some path else None)
 fits_if true path other e = refl
 fits_if false path other e = absurd (cc)
 
-of_fate : {A : Type 0} (result : Result Done PartThere) (fate : Fate) (done : Done) → result ≡ under_its_name (Ok fate) → result ≡ Ok done → is_written fate ≡ false → is_written done.fate ≡ true → A
+of_fate : {A : Type 0} (result : Result Done RunStop) (fate : Fate) (done : Done) → result ≡ under_its_name (Ok fate) → result ≡ Ok done → is_written fate ≡ false → is_written done.fate ≡ true → A
 of_fate result fate done is ok not written = not_written done.fate fate (ap (λ (d : Done). d.fate) (same_ok result (record { fate = fate; instance = None }) done is ok)) not written
 
-no_ok : (result : Result Done PartThere) (p : PartThere) (done : Done) → result ≡ Err p → result ≡ Ok done → ⊥
+no_ok : (result : Result Done RunStop) (p : RunStop) (done : Done) → result ≡ Err p → result ≡ Ok done → ⊥
 no_ok result p done a b = absurd (cc)
 
-pub its_own : (became : Result Fate PartThere) (result : Result Done PartThere) (done : Done) → result ≡ under_its_name became → result ≡ Ok done → done.instance ≡ None
+pub its_own : (became : Result Fate RunStop) (result : Result Done RunStop) (done : Done) → result ≡ under_its_name became → result ≡ Ok done → done.instance ≡ None
 its_own (Ok fate) result done is ok = ap (λ (d : Done). d.instance) (same_ok result (record { fate = fate; instance = None }) done is ok)
 its_own (Err p) result done is ok = absurd (no_ok result p done is ok)
 
-file_by : {I O F E : Type 0} (h : Host I O) (r : Reader I) (w : Writer O) (e : Writer E) (m : Manner) (n : Named) (mode : ℕ) (from : E) (before : FileSystem) (result : Result Done PartThere) (to : E) (after : FileSystem) (done : Done) → m.keeps_names ≡ true
+file_by : {I O F E : Type 0} (h : Host I O) (r : Reader I) (w : Writer O) (e : Writer E) (m : Manner) (n : Named) (mode : ℕ) (from : E) (before : FileSystem) (result : Result Done RunStop) (to : E) (after : FileSystem) (done : Done) → m.keeps_names ≡ true
     → DoesFile (over {F = F} h r w e) m n mode from before result to after → result ≡ Ok done → is_written done.fate ≡ true → ByName m n done
 file_by h r w e m n mode from before result to after done keeps (files.an_index index told is same) ok written = of_fate result fates.MediaIndex done is ok refl written
 file_by h r w e m n mode from before result to after done keeps (files.by_instance index not does) ok written = absurd (cc)
@@ -108,7 +108,7 @@ file_by h r w e m n mode from before result to after done keeps (files.keeps_nam
 file_by h r w e m n mode from before result to after done keeps (files.keeps_name became index kept (files.placed path at does) is) ok written =
     record { its = its_own became result done is ok; fits = fits_if (nat_le (length (below m.output n.relative)) PATH_LIMIT) (below m.output n.relative) path at }
 
-pub name_by : {I O F E : Type 0} (h : Host I O) (r : Reader I) (w : Writer O) (e : Writer E) (m : Manner) (n : Named) (what : What) (from : E) (before : FileSystem) (result : Result Done PartThere) (to : E) (after : FileSystem) (done : Done) → m.keeps_names ≡ true
+pub name_by : {I O F E : Type 0} (h : Host I O) (r : Reader I) (w : Writer O) (e : Writer E) (m : Manner) (n : Named) (what : What) (from : E) (before : FileSystem) (result : Result Done RunStop) (to : E) (after : FileSystem) (done : Done) → m.keeps_names ≡ true
     → DoesName (over {F = F} h r w e) m n what from before result to after → result ≡ Ok done → is_written done.fate ≡ true → ByName m n done
 name_by {I} {O} {F} h r w e m n what from before result to after done keeps (files.a_file mode is does) ok written = file_by {F = F} h r w e m n mode from before result to after done keeps does ok written
 name_by h r w e m n what from before result to after done keeps (files.no_file other told is same) ok written = of_fate result (fate_of what) done is ok (what_not what) written

@@ -22,7 +22,7 @@ use Rattle.dcm_cli.specs.declared.ending.Verdict.TheVariants as verdicts
 use Rattle.dcm_trees.specs.declared.fate.Fate.{Fate}
 use Rattle.dcm_trees.specs.declared.fate.Fate.TheVariants as fates
 use Rattle.dcm_trees.specs.declared.file.Done.{Done}
-use Rattle.dcm_trees.specs.declared.part.PartThere.{PartThere}
+use Rattle.dcm_trees.specs.declared.progress.Stop.{Stop as RunStop}
 use Rattle.dcm_trees.specs.declared.task.NoDays.{NoDays}
 use Rattle.dcm_trees.specs.declared.task.NoDays.TheVariants as days
 use Rattle.dcm_trees.specs.Fate.{is_written}
@@ -154,7 +154,7 @@ module _ {I O E : Type 0} (F : Type 0) (h : Host I O) (r : Reader I) (w : Writer
       met_named name relative (h.took f.written) held d.verdict (ending_fate ending) told opened was_filled done to after still part.text (record { job = job; is_job = of_job; answered = d.answered })
       (sym (ap (λ (x : Ending). is_written (ending_fate x)) d.is) ∙ is) is_whole is names there apart
 
-  met_ready : (job : Job) (n : Named) (mode : ℕ) (from : E) (s : FileSystem) (result : Result Done PartThere) (to : E) (after : FileSystem) (done : Done) → Still h m.part first s.now → s.written ≡ None → IsUtf8 n.path → (f : FileAt h Followed s.now n.path) → IsJobOf m.task (s.now.bytes (number_of f.file)) job
+  met_ready : (job : Job) (n : Named) (mode : ℕ) (from : E) (s : FileSystem) (result : Result Done RunStop) (to : E) (after : FileSystem) (done : Done) → Still h m.part first s.now → s.written ≡ None → IsUtf8 n.path → (f : FileAt h Followed s.now n.path) → IsJobOf m.task (s.now.bytes (number_of f.file)) job
       → DoesByInstance (working {F = F} h r w e) job m n mode from s result to after → result ≡ Ok done → done.fate ≡ fates.There → Elsewhere n.relative done → CopyMade h m.task m.part m.output (s.now.bytes (number_of f.file)) done after.now
   met_ready job n mode from s result to after done still none text f of_job (instance.not_opened opens told is) ok there apart = never done fates.Unread (same_ok result (without_name fates.Unread) done is ok) unread_not there
   met_ready job n mode from s result to after done still none text f of_job (instance.no_part input cause opened tried opens makes back tells) ok there apart =
@@ -166,7 +166,7 @@ module _ {I O E : Type 0} (F : Type 0) (h : Host I O) (r : Reader I) (w : Writer
       (met_filled job n.name n.relative mode input output (s.now.bytes (number_of f.file)) from opened made became to after (subst (λ (t : FileSystem). Still h m.part first t.now) (sym o.same) still) (ap (λ (t : FileSystem). t.written) o.same ∙ none) makes o.sound o.holds of_job fills
       (sym (ap (λ (d : Done). d.fate) same) ∙ there) (subst (Elsewhere n.relative) same apart))
 
-  pub met_unnamed : (n : Named) (mode : ℕ) (from : E) (s : FileSystem) (result : Result Done PartThere) (to : E) (after : FileSystem) (done : Done) → Still h m.part first s.now → s.written ≡ None → IsUtf8 n.path → (f : FileAt h Followed s.now n.path)
+  pub met_unnamed : (n : Named) (mode : ℕ) (from : E) (s : FileSystem) (result : Result Done RunStop) (to : E) (after : FileSystem) (done : Done) → Still h m.part first s.now → s.written ≡ None → IsUtf8 n.path → (f : FileAt h Followed s.now n.path)
       → DoesUnnamed (working {F = F} h r w e) m n mode from s result to after → result ≡ Ok done → done.fate ≡ fates.There → Elsewhere n.relative done → CopyMade h m.task m.part m.output (s.now.bytes (number_of f.file)) done after.now
   met_unnamed n mode from s result to after done still none text f (instance.no_days cause finds told is) ok there apart = never done (no_days_fate cause) (same_ok result (without_name (no_days_fate cause)) done is ok) (days_not cause) there
   met_unnamed n mode from s result to after done still none text f (instance.has_job job mid finds does) ok there apart =

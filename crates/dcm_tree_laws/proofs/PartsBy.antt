@@ -28,7 +28,7 @@ pub visit_leaves : {I O F W E : Type 0} (h : Host I O) (r : Reader I) (w : Write
 visit_leaves h r w e rows shared from told_before before n what result to told after none of_output (work.of_another share t told_is same is) = still_leaves h (manner_of shared.manner).part before after same
 visit_leaves {I} {O} {F} h r w e rows shared from told_before before n what result to told after none of_output (work.was_done done mid share does ends) =
     name_leaves {F = F} h r w e (manner_of shared.manner) n what told_before before before (Ok done) mid after (record { none = none; of_output = of_output; steps = no_step refl refl }) does
-visit_leaves {I} {O} {F} h r w e rows shared from told_before before n what result to told after none of_output (work.part_there p s share does t is) =
+visit_leaves {I} {O} {F} h r w e rows shared from told_before before n what result to told after none of_output (work.ends_run p s share does t is) =
     name_leaves {F = F} h r w e (manner_of shared.manner) n what told_before before before (Err p) told after (record { none = none; of_output = of_output; steps = no_step refl refl }) does
 
 -- what is kept from one name to the next

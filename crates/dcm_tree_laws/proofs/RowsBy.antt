@@ -79,7 +79,7 @@ visit_rows w m shared headed Old New keep from told_before before n what r to to
     }
 visit_rows w m shared headed Old New keep from told_before before n what r to told after make earlier visits more (spec.was_done done mid share does (spec.no_row manifest failure s puts t is ok)) stop had =
     absurd (no_stop to.stop _ (ap (λ p. p.stop) is) stop)
-visit_rows w m shared headed Old New keep from told_before before n what r to told after make earlier visits more (spec.part_there p s share does is ok) stop had = absurd (no_stop to.stop _ (ap (λ q. q.stop) is) stop)
+visit_rows w m shared headed Old New keep from told_before before n what r to told after make earlier visits more (spec.ends_run p s share does is ok) stop had = absurd (no_stop to.stop _ (ap (λ q. q.stop) is) stop)
 
 pub no_manifest : {W : Type 0} (m : Writer W) (start headed : W) → start ≡ headed → m.contents start ≡ append_known (m.contents headed) []
 no_manifest m start headed is = same_manifest m start headed headed [] is (sym (append_known_none (m.contents headed)))

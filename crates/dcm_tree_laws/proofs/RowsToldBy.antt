@@ -10,7 +10,7 @@ use Rattle.dcm_cli.specs.Calls.{Reader}
 use Rattle.dcm_trees.specs.declared.fate.Fate.{Fate}
 use Rattle.dcm_trees.specs.declared.fate.Fate.TheVariants as fates
 use Rattle.dcm_trees.specs.declared.file.Done.{Done}
-use Rattle.dcm_trees.specs.declared.part.PartThere.{PartThere}
+use Rattle.dcm_trees.specs.declared.progress.Stop.{Stop as RunStop}
 use Rattle.dcm_trees.specs.Fate.{is_written, fate_of, word}
 use Rattle.dcm_trees.specs.File as files
 use Rattle.dcm_trees.specs.File.{DoesName, is_media_index}
@@ -69,7 +69,7 @@ kept_name h output t u v mode bytes keeps named free = record {
   parts = named.parts;
 }
 
-its_fate : (done : Done) (fate : Fate) (result : Result Done PartThere) → result ≡ Ok (its_own fate) → result ≡ Ok done → done ≡ its_own fate
+its_fate : (done : Done) (fate : Fate) (result : Result Done RunStop) → result ≡ Ok (its_own fate) → result ≡ Ok done → done ≡ its_own fate
 its_fate done fate result is ok = same_ok result (its_own fate) done is ok
 
 module _ {I O F E : Type 0} (h : Host I O) (r : Reader I) (w : Writer O) (e : Writer E) (k : Manner) where
@@ -84,7 +84,7 @@ module _ {I O F E : Type 0} (h : Host I O) (r : Reader I) (w : Writer O) (e : Wr
   none_done n what from before done to after not (files.no_file other told ok same) = its_fate done (fate_of what) (Ok done) ok refl
 
 module _ {I O F E : Type 0} (h : Host I O) (r : Reader I) (w : Writer O) (e : Writer E) (tells : TellsAll h w) (k : Manner) (number : ℕ) (part_is : k.part ≡ below k.output (part_name number)) (keeps_is : k.keeps_names ≡ true) (goes : k.continues ≡ true) where
-  in_sure : (n : Named) (what : What) (from : E) (before : FileSystem) (result : Result Done PartThere) (to : E) (after : FileSystem) → DoesName (working {F = F} h r w e) k n what from before result to after → DoesName (over_sure {F = F} h (as_whole h r) w e) k n what from before result to after
+  in_sure : (n : Named) (what : What) (from : E) (before : FileSystem) (result : Result Done RunStop) (to : E) (after : FileSystem) → DoesName (working {F = F} h r w e) k n what from before result to after → DoesName (over_sure {F = F} h (as_whole h r) w e) k n what from before result to after
   in_sure n what from before result to after does = works.does_name (working {F = F} h r w e) (may_do h) (working_also h r w) (sure (folders_do {F = F} h)) (working_sure {F = F} h) k n what from before result to after does
 
   there_done : (n : Named) (mode : ℕ) (from : E) (before : FileSystem) (done : Done) (to : E) (after : FileSystem) → is_media_index n.relative ≡ false → IsThere h k.output n.relative before.now → DoesName (working {F = F} h r w e) k n (File mode) from before (Ok done) to after → done ≡ left_there

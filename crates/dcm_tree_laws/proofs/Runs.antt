@@ -46,7 +46,7 @@ pub visit_name : {I O F W E : Type 0} (h : Host I O) (r : Reader I) (w : Writer 
 visit_name h r w e rows shared from told_before before n what result to told after (work.of_another share t told_is same is) = quiet same
 visit_name {I} {O} {F} h r w e rows shared from told_before before n what result to told after (work.was_done done mid share does ends) =
     does_name {F = F} h r w e (manner_of shared.manner) n what told_before before (Ok done) mid after does
-visit_name {I} {O} {F} h r w e rows shared from told_before before n what result to told after (work.part_there p s share does t is) =
+visit_name {I} {O} {F} h r w e rows shared from told_before before n what result to told after (work.ends_run p s share does t is) =
     does_name {F = F} h r w e (manner_of shared.manner) n what told_before before (Err p) told after does
 
 -- what all names share stays, and the rest is done by steps

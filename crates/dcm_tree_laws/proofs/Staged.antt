@@ -89,7 +89,7 @@ pub stop_before : {S I O F W E : Type 0} (w : World S I O F E) (m : Writer W) (s
 stop_before w m shared from told_before before n what r to told after (spec.of_another none is t same ok) stop = sym (ap (λ p. p.stop) is) ∙ stop
 stop_before w m shared from told_before before n what r to told after (spec.was_done done mid share does (spec.has_row manifest puts reports is ok)) stop = sym (ap (λ p. p.stop) is) ∙ stop
 stop_before w m shared from told_before before n what r to told after (spec.was_done done mid share does (spec.no_row manifest failure s puts t is ok)) stop = absurd (no_stop to.stop _ (ap (λ p. p.stop) is) stop)
-stop_before w m shared from told_before before n what r to told after (spec.part_there p s share does is ok) stop = absurd (no_stop to.stop _ (ap (λ q. q.stop) is) stop)
+stop_before w m shared from told_before before n what r to told after (spec.ends_run p s share does is ok) stop = absurd (no_stop to.stop _ (ap (λ q. q.stop) is) stop)
 
 -- how the names of a run are done
 abbrev pub Of : Shared → Manner
@@ -140,7 +140,7 @@ module _ {I O F W E : Type 0} (h : Host I O) (r : Reader I) (w : Writer O) (e : 
     (name_leaves {F = F} h r w e (Of shared) number part_is n what told_before before (Ok done) mid after none does).none,
     name_keeps {F = F} h r w e (Of shared) number part_is n what told_before before (Ok done) mid after none does,
   )
-  quietly from told_before before n what result to told after none (spec.part_there p s share does is ok) = (
+  quietly from told_before before n what result to told after none (spec.ends_run p s share does is ok) = (
     (name_leaves {F = F} h r w e (Of shared) number part_is n what told_before before (Err p) told after none does).none,
     name_keeps {F = F} h r w e (Of shared) number part_is n what told_before before (Err p) told after none does,
   )
@@ -184,7 +184,7 @@ module _ {I O F W E : Type 0} (h : Host I O) (r : Reader I) (w : Writer O) (e : 
     visit_steps from told_before before n what result to told after none since beside stop (spec.was_done done mid share does ends) =
         let s = leaving.step (Of shared) known.number known.part_is known.keeps_is output_is task_is n what told_before before done mid after none since beside does in
         record { stage = s.stage; keeps = s.keeps; came = λ it its. s.came it tt }
-    visit_steps from told_before before n what result to told after none since beside stop (spec.part_there p s share does is ok) = absurd (no_stop to.stop _ (ap (λ q. q.stop) is) stop)
+    visit_steps from told_before before n what result to told after none since beside stop (spec.ends_run p s share does is ok) = absurd (no_stop to.stop _ (ap (λ q. q.stop) is) stop)
 
     visits_good : (start : FileSystem) → KeepsAll h folder first start.now → VisitsDo (StaysGood h folder x IsSo IsDone IsBeside shared start) (noted (visits_of (working {F = F} h r w e) m))
     visits_good start since from before n what result to after v good =

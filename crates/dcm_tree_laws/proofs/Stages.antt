@@ -9,7 +9,7 @@ use Rattle.dcm_walk.specs.declared.visitor.What.{What}
 use Rattle.dcm_walk.specs.declared.visitor.What.TheVariants.{File}
 use Rattle.dcm_cli.specs.Calls.{Reader}
 use Rattle.dcm_trees.specs.declared.file.Done.{Done}
-use Rattle.dcm_trees.specs.declared.part.PartThere.{PartThere}
+use Rattle.dcm_trees.specs.declared.progress.Stop.{Stop as RunStop}
 use Rattle.dcm_trees.specs.Fate.{is_written}
 use Rattle.dcm_trees.specs.File as files
 use Rattle.dcm_trees.specs.File.{DoesName, is_media_index}
@@ -156,25 +156,25 @@ module _ {I O : Type 0} (h : Host I O) (r : Reader I) (w : Writer O) (k : Manner
   )
 
 module _ {I O F E : Type 0} (h : Host I O) (r : Reader I) (w : Writer O) (e : Writer E) (k : Manner) where
-  pub over_does : (n : Named) (what : What) (from : E) (before : FileSystem) (result : Result Done PartThere) (to : E) (after : FileSystem) → DoesName (working {F = F} h r w e) k n what from before result to after → DoesName (over {F = F} h (as_whole h r) w e) k n what from before result to after
+  pub over_does : (n : Named) (what : What) (from : E) (before : FileSystem) (result : Result Done RunStop) (to : E) (after : FileSystem) → DoesName (working {F = F} h r w e) k n what from before result to after → DoesName (over {F = F} h (as_whole h r) w e) k n what from before result to after
   over_does n what from before result to after does = works.does_name (working {F = F} h r w e) (may_do h) (working_also h r w) (folders_do {F = F} h) (working_can {F = F} h) k n what from before result to after does
 
-  pub unchanged : (n : Named) (what : What) (from : E) (before : FileSystem) (result : Result Done PartThere) (to : E) (after : FileSystem) → ((c : ℕ) → what ≢ File c) → DoesName (working {F = F} h r w e) k n what from before result to after → after ≡ before
+  pub unchanged : (n : Named) (what : What) (from : E) (before : FileSystem) (result : Result Done RunStop) (to : E) (after : FileSystem) → ((c : ℕ) → what ≢ File c) → DoesName (working {F = F} h r w e) k n what from before result to after → after ≡ before
   unchanged n what from before result to after not (files.a_file c is does) = absurd (not c is)
   unchanged n what from before result to after not (files.no_file other told is same) = same
 
-  pub index_same : (n : Named) (what : What) (from : E) (before : FileSystem) (result : Result Done PartThere) (to : E) (after : FileSystem) → is_media_index n.relative ≡ true → DoesName (working {F = F} h r w e) k n what from before result to after → after ≡ before
+  pub index_same : (n : Named) (what : What) (from : E) (before : FileSystem) (result : Result Done RunStop) (to : E) (after : FileSystem) → is_media_index n.relative ≡ true → DoesName (working {F = F} h r w e) k n what from before result to after → after ≡ before
   index_same n what from before result to after index (files.a_file c is (files.an_index it told x same)) = same
   index_same n what from before result to after index (files.a_file c is (files.keeps_name became not kept does x)) = true_false (is_media_index n.relative) index not
   index_same n what from before result to after index (files.a_file c is (files.by_instance not kept does)) = true_false (is_media_index n.relative) index not
   index_same n what from before result to after index (files.no_file other told is same) = same
 
   module _ (number : ℕ) (part_is : k.part ≡ below k.output (part_name number)) where
-    pub name_leaves : (n : Named) (what : What) (from : E) (before : FileSystem) (result : Result Done PartThere) (to : E) (after : FileSystem) → before.written ≡ None → DoesName (working {F = F} h r w e) k n what from before result to after → Leaves h k.part k.output before after
+    pub name_leaves : (n : Named) (what : What) (from : E) (before : FileSystem) (result : Result Done RunStop) (to : E) (after : FileSystem) → before.written ≡ None → DoesName (working {F = F} h r w e) k n what from before result to after → Leaves h k.part k.output before after
     name_leaves n what from before result to after none does =
         leaves h (IsOutput h (as_whole h r) w) k.part k.output before after none (of_output h r w k number part_is) (does_name {F = F} h (as_whole h r) w e k n what from before result to after (over_does n what from before result to after does))
 
-    pub name_keeps : (n : Named) (what : What) (from : E) (before : FileSystem) (result : Result Done PartThere) (to : E) (after : FileSystem) → before.written ≡ None → DoesName (working {F = F} h r w e) k n what from before result to after → KeepsAll h k.output before.now after.now
+    pub name_keeps : (n : Named) (what : What) (from : E) (before : FileSystem) (result : Result Done RunStop) (to : E) (after : FileSystem) → before.written ≡ None → DoesName (working {F = F} h r w e) k n what from before result to after → KeepsAll h k.output before.now after.now
     name_keeps n what from before result to after none does = stays_keeps h k.part k.output number before.now after.now part_is (name_leaves n what from before result to after none does).stays
 
     pub touches : (n : Named) (what : What) (from : E) (before : FileSystem) (done : Done) (to : E) (after : FileSystem) → k.keeps_names ≡ true → before.written ≡ None → DoesName (working {F = F} h r w e) k n what from before (Ok done) to after

@@ -8,7 +8,7 @@ use Rattle.dcm_walk.specs.declared.visitor.What.{What}
 use Rattle.dcm_walk.specs.declared.visitor.What.TheVariants.{File}
 use Rattle.dcm_cli.specs.Calls.{Reader}
 use Rattle.dcm_trees.specs.declared.file.Done.{Done}
-use Rattle.dcm_trees.specs.declared.part.PartThere.{PartThere}
+use Rattle.dcm_trees.specs.declared.progress.Stop.{Stop as RunStop}
 use Rattle.dcm_trees.specs.declared.progress.Shared.{Shared}
 use Rattle.dcm_trees.specs.declared.progress.Stop.{Stop}
 use Rattle.dcm_trees.specs.declared.progress.Work.{Work}
@@ -68,20 +68,20 @@ sure_may h = record {
 abbrev OutputThere : {I O : Type 0} → Host I O → Manner → Tree → Named → What → Type 0
 OutputThere h k t n what = (mode : ℕ) → what ≡ File mode → is_media_index n.relative ≡ false → IsThere h k.output n.relative t
 
-file_same : {I O F E : Type 0} (h : Host I O) (r : Reader I) (w : Writer O) (e : Writer E) (k : Manner) (n : Named) (mode : ℕ) (from : E) (before : FileSystem) (result : Result Done PartThere) (to : E) (after : FileSystem) → k.continues ≡ true → k.keeps_names ≡ true
+file_same : {I O F E : Type 0} (h : Host I O) (r : Reader I) (w : Writer O) (e : Writer E) (k : Manner) (n : Named) (mode : ℕ) (from : E) (before : FileSystem) (result : Result Done RunStop) (to : E) (after : FileSystem) → k.continues ≡ true → k.keeps_names ≡ true
     → OutputThere h k before.now n (File mode) → DoesFile (over_sure {F = F} h r w e) k n mode from before result to after → after ≡ before
 file_same h r w e k n mode from before result to after goes keeps there (files.an_index index told is same) = same
 file_same {I} {O} {F} h r w e k n mode from before result to after goes keeps there (files.keeps_name became index kept does is) =
     (there_is_left {F = F} r w e h k n mode from before result to after goes keeps index (there mode refl index) (files.a_file mode refl (files.keeps_name became index kept does is))).same
 file_same h r w e k n mode from before result to after goes keeps there (files.by_instance index not does) = absurd (cc)
 
-name_same : {I O F E : Type 0} (h : Host I O) (r : Reader I) (w : Writer O) (e : Writer E) (k : Manner) (n : Named) (what : What) (from : E) (before : FileSystem) (result : Result Done PartThere) (to : E) (after : FileSystem) → k.continues ≡ true → k.keeps_names ≡ true
+name_same : {I O F E : Type 0} (h : Host I O) (r : Reader I) (w : Writer O) (e : Writer E) (k : Manner) (n : Named) (what : What) (from : E) (before : FileSystem) (result : Result Done RunStop) (to : E) (after : FileSystem) → k.continues ≡ true → k.keeps_names ≡ true
     → OutputThere h k before.now n what → DoesName (over_sure {F = F} h r w e) k n what from before result to after → after ≡ before
 name_same {I} {O} {F} h r w e k n what from before result to after goes keeps there (files.a_file mode is does) =
     file_same {F = F} h r w e k n mode from before result to after goes keeps (subst (OutputThere h k before.now n) is there) does
 name_same h r w e k n what from before result to after goes keeps there (files.no_file other told is same) = same
 
-done_there : (result : Result Done PartThere) (done : Done) → result ≡ Ok left_there → result ≡ Ok done → done ≡ left_there
+done_there : (result : Result Done RunStop) (done : Done) → result ≡ Ok left_there → result ≡ Ok done → done ≡ left_there
 done_there result done is ok = cc
 
 -- it has its row
@@ -96,7 +96,7 @@ visit_same : {I O F W E : Type 0} (h : Host I O) (r : Reader I) (w : Writer O) (
 visit_same h r w e m shared from told_before before n what result to told after goes keeps there (spec.of_another none is t same ok) = same
 visit_same {I} {O} {F} h r w e m shared from told_before before n what result to told after goes keeps there (spec.was_done done mid share does ends) =
     name_same {F = F} h r w e (manner_of shared.manner) n what told_before before (Ok done) mid after goes keeps (there share) does
-visit_same {I} {O} {F} h r w e m shared from told_before before n what result to told after goes keeps there (spec.part_there p s share does is ok) =
+visit_same {I} {O} {F} h r w e m shared from told_before before n what result to told after goes keeps there (spec.ends_run p s share does is ok) =
     name_same {F = F} h r w e (manner_of shared.manner) n what told_before before (Err p) told after goes keeps (there share) does
 
 -- ---- all names

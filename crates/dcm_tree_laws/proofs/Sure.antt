@@ -72,4 +72,5 @@ module _ {S O F : Type 0} (d e : FoldersDo S O F) (can : Implies d e) where
   makes_part part mode before r after (parts.no_text t is same) = parts.no_text t is same
   makes_part part mode before r after (parts.made o t call is) = parts.made o t (can.file before part mode (Ok o) after call) is
   makes_part part mode before r after (parts.is_there x t call k is) = parts.is_there x t (can.file before part mode (Err x) after call) k is
-  makes_part part mode before r after (parts.not_made x t call k is) = parts.not_made x t (can.file before part mode (Err x) after call) k is
+  makes_part part mode before r after (parts.no_memory x t call k is) = parts.no_memory x t (can.file before part mode (Err x) after call) k is
+  makes_part part mode before r after (parts.not_made x t call k m is) = parts.not_made x t (can.file before part mode (Err x) after call) k m is

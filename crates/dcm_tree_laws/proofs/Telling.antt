@@ -166,7 +166,7 @@ module _ {I O F W E : Type 0} (h : Host I O) (r : Reader I) (w : Writer O) (m : 
     visit_told x d from told_before before n what result to told after none since (inl other) stop (spec.was_done done mid share does ends) is = true_false (is_of shared.part.number shared.part.count n.relative) share other
     visit_told x d from told_before before n what result to told after none since (inr aside) stop (spec.was_done done mid share does ends) is =
         telling.stays (Of shared) known.number known.part_is known.keeps_is output_is task_is x d n what told_before before done mid after none since aside does is
-    visit_told x d from told_before before n what result to told after none since spares stop (spec.part_there p s share does t ok) is = absurd (no_stop to.stop _ (ap (λ q. q.stop) t) stop)
+    visit_told x d from told_before before n what result to told after none since spares stop (spec.ends_run p s share does t ok) is = absurd (no_stop to.stop _ (ap (λ q. q.stop) t) stop)
 
     visits_good : (headed : W) (start : FileSystem) → KeepsAll h folder first start.now → VisitsDo (StaysGood h m folder IsTold AreAside became shared headed start) (noted (visits_of (working {F = F} h r w e) m))
     visits_good headed start since from before n what result to after v good =

@@ -8,7 +8,7 @@ use Rattle.dcm_cli.specs.Calls.{Reader}
 use Rattle.dcm_trees.specs.declared.fate.Fate.{Fate}
 use Rattle.dcm_trees.specs.declared.fate.Fate.TheVariants as fates
 use Rattle.dcm_trees.specs.declared.file.Done.{Done}
-use Rattle.dcm_trees.specs.declared.part.PartThere.{PartThere}
+use Rattle.dcm_trees.specs.declared.progress.Stop.{Stop as RunStop}
 use Rattle.dcm_trees.specs.File as files
 use Rattle.dcm_trees.specs.File.{DoesFile, DoesName}
 use Rattle.dcm_trees.specs.Manner.{Manner}
@@ -22,7 +22,7 @@ use Rattle.dcm_tree_laws.proofs.Working.{whole_gives}
 true_false : {A : Type 0} (b : Bool) → b ≡ true → b ≡ false → A
 true_false b e f = absurd (cc)
 
-file_own : {S I O F E : Type 0} (w : World S I O F E) (m : Manner) (n : Named) (mode : ℕ) (from : E) (before : S) (result : Result Done PartThere) (to : E) (after : S) (done : Done) → m.keeps_names ≡ true → DoesFile w m n mode from before result to after → result ≡ Ok done → done.instance ≡ None
+file_own : {S I O F E : Type 0} (w : World S I O F E) (m : Manner) (n : Named) (mode : ℕ) (from : E) (before : S) (result : Result Done RunStop) (to : E) (after : S) (done : Done) → m.keeps_names ≡ true → DoesFile w m n mode from before result to after → result ≡ Ok done → done.instance ≡ None
 file_own w m n mode from before result to after done keeps (files.an_index index told is same) ok = its_own (Ok fates.MediaIndex) result done is ok
 file_own w m n mode from before result to after done keeps (files.keeps_name became index kept does is) ok = its_own became result done is ok
 file_own w m n mode from before result to after done keeps (files.by_instance index not does) ok = true_false m.keeps_names keeps not

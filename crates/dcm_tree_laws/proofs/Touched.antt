@@ -15,7 +15,7 @@ use Rattle.dcm_trees.specs.declared.fate.Fate.{Fate}
 use Rattle.dcm_trees.specs.declared.file.Done.{Done}
 use Rattle.dcm_trees.specs.declared.part.Naming.{Naming}
 use Rattle.dcm_trees.specs.declared.part.Naming.TheVariants.{Linked, Moved, NotFree, Failed}
-use Rattle.dcm_trees.specs.declared.part.PartThere.{PartThere}
+use Rattle.dcm_trees.specs.declared.progress.Stop.{Stop as RunStop}
 use Rattle.dcm_trees.specs.declared.place.NotMade.{NotMade}
 use Rattle.dcm_trees.specs.Fate.{is_written}
 use Rattle.dcm_trees.specs.File as files
@@ -228,9 +228,10 @@ module _ {I O F : Type 0} (h : Host I O) (part output relative : List ℕ) (IsNa
   made_part mode before o after (parts.no_text t x same) = absurd (cc)
   made_part mode before o after (parts.made opened t call x) = part_made h part output relative IsNamed mode before after call.0
   made_part mode before o after (parts.is_there e t call k x) = absurd (cc)
-  made_part mode before o after (parts.not_made e t call k x) = absurd (cc)
+  made_part mode before o after (parts.no_memory e t call k x) = absurd (cc)
+  made_part mode before o after (parts.not_made e t call k m x) = absurd (cc)
 
-pub no_done : (r : Result Done PartThere) (p : PartThere) (done : Done) → r ≡ Err p → r ≡ Ok done → ⊥
+pub no_done : (r : Result Done RunStop) (p : RunStop) (done : Done) → r ≡ Err p → r ≡ Ok done → ⊥
 no_done r p done a b = absurd (cc)
 
 -- ---- a file
@@ -263,7 +264,7 @@ module _ {I O F E : Type 0} (h : Host I O) (r : Reader I) (w : Writer O) (e : Wr
       (names_output name (h.took f.written) (ending_fate ending) told start was_filled fate to after done
       (is_ready (h.took f.written) (more i (is_filled_as h (IsOutput h r w) r w m.part m.output (h.masked mode) job input output before ending was_filled f (is_output h r w mode job input f.left output f.written ending new f.finished done)))) names)
 
-  readied : (job : Job) (n : Named) (mode : ℕ) (from : E) (before : FileSystem) (result : Result Fate PartThere) (to : E) (after : FileSystem) (fate : Fate) → IsIdle h (IsOutput h r w) m.part m.output idle before before
+  readied : (job : Job) (n : Named) (mode : ℕ) (from : E) (before : FileSystem) (result : Result Fate RunStop) (to : E) (after : FileSystem) (fate : Fate) → IsIdle h (IsOutput h r w) m.part m.output idle before before
       → DoesReady (over {F = F} h r w e) job m n mode path from before result to after → result ≡ Ok fate → By h m relative fate before after
   readied job n mode from before result to after fate i (files.not_opened opens told f) ok = still h m.part m.output relative (is_written fate ≡ true) before after (opens_file {I = I} h n.path before None after opens)
   readied job n mode from before result to after fate i (files.no_part input cause opened tried opens makes back tells) ok =
@@ -276,7 +277,7 @@ module _ {I O F E : Type 0} (h : Host I O) (r : Reader I) (w : Writer O) (e : Wr
       (fills job n.name mode input output (part_is_new {F = F} h m.part mode opened output made makes) from before made became to after
       (more (more i (quiet same)) (part_is_made {F = F} h (IsOutput h r w) m.part m.output mode opened output made makes)) f)))
 
-  freed : (n : Named) (mode : ℕ) (from : E) (before : FileSystem) (result : Result Fate PartThere) (to : E) (after : FileSystem) (fate : Fate) → IsIdle h (IsOutput h r w) m.part m.output idle before before
+  freed : (n : Named) (mode : ℕ) (from : E) (before : FileSystem) (result : Result Fate RunStop) (to : E) (after : FileSystem) (fate : Fate) → IsIdle h (IsOutput h r w) m.part m.output idle before before
       → DoesFree (over {F = F} h r w e) m n mode path from before result to after → result ≡ Ok fate → By h m relative fate before after
   freed n mode from before result to after fate i (files.no_days cause f told x) ok = still h m.part m.output relative (is_written fate ≡ true) before after (finds_job h r m.task n.path before (Err cause) after f)
   freed n mode from before result to after fate i (files.has_job job mid f does) ok =
@@ -284,7 +285,7 @@ module _ {I O F E : Type 0} (h : Host I O) (r : Reader I) (w : Writer O) (e : Wr
       then_touches h m.part m.output relative (is_written fate ≡ true) before.now mid.now after.now (still h m.part m.output relative (is_written fate ≡ true) before mid same)
       (readied job n mode from mid result to after fate (subst (λ (s : FileSystem). IsIdle h (IsOutput h r w) m.part m.output idle s s) (sym same) i) does ok)
 
-  placed : (n : Named) (mode : ℕ) (from : E) (before : FileSystem) (result : Result Fate PartThere) (to : E) (after : FileSystem) (fate : Fate) → IsIdle h (IsOutput h r w) m.part m.output idle before before
+  placed : (n : Named) (mode : ℕ) (from : E) (before : FileSystem) (result : Result Fate RunStop) (to : E) (after : FileSystem) (fate : Fate) → IsIdle h (IsOutput h r w) m.part m.output idle before before
       → DoesPlaced (over {F = F} h r w e) m n mode path from before result to after → result ≡ Ok fate → By h m relative fate before after
   placed n mode from before result to after fate i (files.not_free place f nf told x) ok =
       still h m.part m.output relative (is_written fate ≡ true) before after (finds (folders_do {F = F} h) (are_quiet h) path (length m.output + 1) before place after f)
@@ -294,24 +295,24 @@ module _ {I O F E : Type 0} (h : Host I O) (r : Reader I) (w : Writer O) (e : Wr
       (freed n mode from looked result to after fate (subst (λ (s : FileSystem). IsIdle h (IsOutput h r w) m.part m.output idle s s) (sym same) i) does ok)
 
 module _ {I O F E : Type 0} (h : Host I O) (r : Reader I) (w : Writer O) (e : Writer E) (m : Manner) (n : Named) where
-  named : (mode : ℕ) (from : E) (before : FileSystem) (result : Result Fate PartThere) (to : E) (after : FileSystem) (fate : Fate) → IsIdle h (IsOutput h r w) m.part m.output idle before before
+  named : (mode : ℕ) (from : E) (before : FileSystem) (result : Result Fate RunStop) (to : E) (after : FileSystem) (fate : Fate) → IsIdle h (IsOutput h r w) m.part m.output idle before before
       → DoesNamed (over {F = F} h r w e) m n mode from before result to after → result ≡ Ok fate → By h m n.relative fate before after
   named mode from before result to after fate i (files.too_long none told x same) ok = still h m.part m.output n.relative (is_written fate ≡ true) before after same
   named mode from before result to after fate i (files.placed path at does) ok = placed {F = F} h r w e m n.relative path (path_is m.output n.relative path at) n mode from before result to after fate i does ok
 
-  kept : (mode : ℕ) (from : E) (before : FileSystem) (became : Result Fate PartThere) (result : Result Done PartThere) (to : E) (after : FileSystem) (done : Done) → IsIdle h (IsOutput h r w) m.part m.output idle before before
+  kept : (mode : ℕ) (from : E) (before : FileSystem) (became : Result Fate RunStop) (result : Result Done RunStop) (to : E) (after : FileSystem) (done : Done) → IsIdle h (IsOutput h r w) m.part m.output idle before before
       → DoesNamed (over {F = F} h r w e) m n mode from before became to after → result ≡ under_its_name became → result ≡ Ok done → By h m n.relative done.fate before after
   kept mode from before (Ok fate) result to after done i does x ok =
       subst (λ (d : Done). By h m n.relative d.fate before after) (sym (same_ok result (record { fate = fate; instance = None }) done x ok)) (named mode from before (Ok fate) to after fate i does refl)
   kept mode from before (Err p) result to after done i does x ok = absurd (no_done result p done x ok)
 
-  file : (mode : ℕ) (from : E) (before : FileSystem) (result : Result Done PartThere) (to : E) (after : FileSystem) (done : Done) → m.keeps_names ≡ true → IsIdle h (IsOutput h r w) m.part m.output idle before before
+  file : (mode : ℕ) (from : E) (before : FileSystem) (result : Result Done RunStop) (to : E) (after : FileSystem) (done : Done) → m.keeps_names ≡ true → IsIdle h (IsOutput h r w) m.part m.output idle before before
       → DoesFile (over {F = F} h r w e) m n mode from before result to after → result ≡ Ok done → By h m n.relative done.fate before after
   file mode from before result to after done keeps i (files.an_index index told x same) ok = still h m.part m.output n.relative (is_written done.fate ≡ true) before after same
   file mode from before result to after done keeps i (files.keeps_name became index kept_it does x) ok = kept mode from before became result to after done i does x ok
   file mode from before result to after done keeps i (files.by_instance index not does) ok = absurd (cc)
 
-  pub name_touches : (what : What) (from : E) (before : FileSystem) (result : Result Done PartThere) (to : E) (after : FileSystem) (done : Done) → m.keeps_names ≡ true → IsIdle h (IsOutput h r w) m.part m.output idle before before
+  pub name_touches : (what : What) (from : E) (before : FileSystem) (result : Result Done RunStop) (to : E) (after : FileSystem) (done : Done) → m.keeps_names ≡ true → IsIdle h (IsOutput h r w) m.part m.output idle before before
       → DoesName (over {F = F} h r w e) m n what from before result to after → result ≡ Ok done → By h m n.relative done.fate before after
   name_touches what from before result to after done keeps i (files.a_file mode is does) ok = file mode from before result to after done keeps i does ok
   name_touches what from before result to after done keeps i (files.no_file other told x same) ok = still h m.part m.output n.relative (is_written done.fate ≡ true) before after same

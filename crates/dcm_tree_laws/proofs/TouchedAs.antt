@@ -13,7 +13,7 @@ use Rattle.dcm_trees.specs.declared.fate.Fate.{Fate}
 use Rattle.dcm_trees.specs.declared.file.Done.{Done}
 use Rattle.dcm_trees.specs.declared.fate.Fate.TheVariants as fates
 use Rattle.dcm_trees.specs.declared.part.NoPart.{NoPart}
-use Rattle.dcm_trees.specs.declared.part.PartThere.{PartThere}
+use Rattle.dcm_trees.specs.declared.progress.Stop.{Stop as RunStop}
 use Rattle.dcm_trees.specs.Fate.{is_written, fate_of}
 use Rattle.dcm_trees.specs.File as files
 use Rattle.dcm_trees.specs.File.{DoesFile, DoesName}
@@ -46,14 +46,14 @@ part_then h m done before mid after first (at_instance relative is second) =
     at_instance relative is (then_touches h m.part m.output relative.items (is_written done.fate ≡ true) before.now mid.now after.now (first relative.items (is_written done.fate ≡ true)) second)
 
 -- there is no part to write to
-pub no_err : (r : Result Done PartThere) (p : PartThere) (done : Done) → r ≡ Err p → r ≡ Ok done → ⊥
+pub no_err : (r : Result Done RunStop) (p : RunStop) (done : Done) → r ≡ Err p → r ≡ Ok done → ⊥
 no_err r p done a b = absurd (cc)
 
-unnamed_none : (became : Result Fate PartThere) (r : Result Done PartThere) (done : Done) → r ≡ unnamed became → r ≡ Ok done → done.instance ≡ None
+unnamed_none : (became : Result Fate RunStop) (r : Result Done RunStop) (done : Done) → r ≡ unnamed became → r ≡ Ok done → done.instance ≡ None
 unnamed_none (Ok fate) r done is ok = ap (λ (d : Done). d.instance) (same_ok r (without_name fate) done is ok)
 unnamed_none (Err p) r done is ok = absurd (no_err r p done is ok)
 
-no_name : {E : Type 0} (e : Writer E) (name : List ℕ) (cause : NoPart) (from : E) (r : Result Done PartThere) (to : E) (done : Done) → EndsWithoutPart e name cause from r to → r ≡ Ok done → done.instance ≡ None
+no_name : {E : Type 0} (e : Writer E) (name : List ℕ) (cause : NoPart) (from : E) (r : Result Done RunStop) (to : E) (done : Done) → EndsWithoutPart e name cause from r to → r ≡ Ok done → done.instance ≡ None
 no_name e name cause from r to done (instance.ended became tells is) ok = unnamed_none became r done is ok
 
 module _ {I O F E : Type 0} (h : Host I O) (r : Reader I) (w : Writer O) (e : Writer E) (m : Manner) where
@@ -102,7 +102,7 @@ module _ {I O F E : Type 0} (h : Host I O) (r : Reader I) (w : Writer O) (e : Wr
       (names_part name (h.took f.written) (ending_fate ending) told start was_filled done to after was
       (is_ready (h.took f.written) (more i (is_filled_as h (IsOutput h r w) r w m.part m.output (h.masked mode) job input output before ending was_filled f (is_output h r w mode job input f.left output f.written ending new f.finished was)))) names)
 
-  by_instance : (job : Job) (n : Named) (mode : ℕ) (from : E) (before : FileSystem) (result : Result Done PartThere) (to : E) (after : FileSystem) (done : Done) → IsIdle h (IsOutput h r w) m.part m.output idle before before
+  by_instance : (job : Job) (n : Named) (mode : ℕ) (from : E) (before : FileSystem) (result : Result Done RunStop) (to : E) (after : FileSystem) (done : Done) → IsIdle h (IsOutput h r w) m.part m.output idle before before
       → DoesByInstance (over {F = F} h r w e) job m n mode from before result to after → result ≡ Ok done → TouchesAs h m done before after
   by_instance job n mode from before result to after done i (instance.not_opened opens told x) ok =
       part_alone (ap (λ (d : Done). d.instance) (same_ok result (without_name fates.Unread) done x ok)) (λ relative. still h m.part m.output relative ⊥ before after (opens_file {I = I} h n.path before None after opens))
@@ -115,7 +115,7 @@ module _ {I O F E : Type 0} (h : Host I O) (r : Reader I) (w : Writer O) (e : Wr
       (part_then h m became opened made after (λ relative IsNamed. made_part {F = F} h m.part m.output relative IsNamed mode opened output made makes)
       (fills job n.name mode input output (part_is_new {F = F} h m.part mode opened output made makes) from before made became to after (more (more i (quiet same)) (part_is_made {F = F} h (IsOutput h r w) m.part m.output mode opened output made makes)) f)))
 
-  unnamed_touches : (n : Named) (mode : ℕ) (from : E) (before : FileSystem) (result : Result Done PartThere) (to : E) (after : FileSystem) (done : Done) → IsIdle h (IsOutput h r w) m.part m.output idle before before
+  unnamed_touches : (n : Named) (mode : ℕ) (from : E) (before : FileSystem) (result : Result Done RunStop) (to : E) (after : FileSystem) (done : Done) → IsIdle h (IsOutput h r w) m.part m.output idle before before
       → DoesUnnamed (over {F = F} h r w e) m n mode from before result to after → result ≡ Ok done → TouchesAs h m done before after
   unnamed_touches n mode from before result to after done i (instance.no_days cause f told x) ok =
       part_alone (ap (λ (d : Done). d.instance) (same_ok result (without_name (no_days_fate cause)) done x ok)) (λ relative. still h m.part m.output relative ⊥ before after (finds_job h r m.task n.path before (Err cause) after f))
@@ -124,14 +124,14 @@ module _ {I O F E : Type 0} (h : Host I O) (r : Reader I) (w : Writer O) (e : Wr
       part_then h m done before mid after (λ relative IsNamed. still h m.part m.output relative IsNamed before mid same)
       (by_instance job n mode from mid result to after done (subst (λ (s : FileSystem). IsIdle h (IsOutput h r w) m.part m.output idle s s) (sym same) i) does ok)
 
-  file_as : (n : Named) (mode : ℕ) (from : E) (before : FileSystem) (result : Result Done PartThere) (to : E) (after : FileSystem) (done : Done) → m.keeps_names ≡ false → IsIdle h (IsOutput h r w) m.part m.output idle before before
+  file_as : (n : Named) (mode : ℕ) (from : E) (before : FileSystem) (result : Result Done RunStop) (to : E) (after : FileSystem) (done : Done) → m.keeps_names ≡ false → IsIdle h (IsOutput h r w) m.part m.output idle before before
       → DoesFile (over {F = F} h r w e) m n mode from before result to after → result ≡ Ok done → TouchesAs h m done before after
   file_as n mode from before result to after done not i (files.an_index index told x same) ok =
       part_alone (ap (λ (d : Done). d.instance) (same_ok result (without_name fates.MediaIndex) done x ok)) (λ relative. still h m.part m.output relative ⊥ before after same)
   file_as n mode from before result to after done not i (files.keeps_name became index kept does x) ok = absurd (cc)
   file_as n mode from before result to after done not i (files.by_instance index other does) ok = unnamed_touches n mode from before result to after done i does ok
 
-  pub name_touches_as : (n : Named) (what : What) (from : E) (before : FileSystem) (result : Result Done PartThere) (to : E) (after : FileSystem) (done : Done) → m.keeps_names ≡ false → IsIdle h (IsOutput h r w) m.part m.output idle before before
+  pub name_touches_as : (n : Named) (what : What) (from : E) (before : FileSystem) (result : Result Done RunStop) (to : E) (after : FileSystem) (done : Done) → m.keeps_names ≡ false → IsIdle h (IsOutput h r w) m.part m.output idle before before
       → DoesName (over {F = F} h r w e) m n what from before result to after → result ≡ Ok done → TouchesAs h m done before after
   name_touches_as n what from before result to after done not i (files.a_file mode is does) ok = file_as n mode from before result to after done not i does ok
   name_touches_as n what from before result to after done not i (files.no_file other told x same) ok =

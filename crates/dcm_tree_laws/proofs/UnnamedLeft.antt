@@ -13,7 +13,7 @@ use Rattle.dcm_cli.specs.declared.ending.Ending.{Ending}
 use Rattle.dcm_cli.specs.declared.ending.Verdict.{Verdict}
 use Rattle.dcm_trees.specs.declared.fate.Fate.{Fate}
 use Rattle.dcm_trees.specs.declared.file.Done.{Done}
-use Rattle.dcm_trees.specs.declared.part.PartThere.{PartThere}
+use Rattle.dcm_trees.specs.declared.progress.Stop.{Stop as RunStop}
 use Rattle.dcm_trees.specs.declared.task.NoDays.{NoDays}
 use Rattle.dcm_trees.specs.declared.task.NoDays.TheVariants as days
 use Rattle.dcm_trees.specs.Fate.{is_written}
@@ -125,10 +125,10 @@ module _ {I O E : Type 0} (F : Type 0) (h : Host I O) (r : Reader I) (w : Writer
       named name held (h.took f.written) d.verdict fate (ending_fate ending) told before was_filled done to after none (whole_at h m.part mode (h.took f.written) before made was_filled makes closes) ends
       (record { job = job; is_job = of_job; answered = d.answered }) (sym (ap (λ (x : Ending). is_written (ending_fate x)) d.is) ∙ is) gone names
 
-  again_by : (fate : Fate) (before opened : FileSystem) (result : Result Done PartThere) (done : Done) (after : FileSystem) → opened ≡ before → result ≡ Ok done → IsUnnamed fate opened done after → IsUnnamedAgain fate before result after
+  again_by : (fate : Fate) (before opened : FileSystem) (result : Result Done RunStop) (done : Done) (after : FileSystem) → opened ≡ before → result ≡ Ok done → IsUnnamed fate opened done after → IsUnnamedAgain fate before result after
   again_by fate before opened result done after same is x = record { row = is ∙ ap Ok x.row; same = subst (λ (s : FileSystem). IsAsItWas s.now after.now) same x.same }
 
-  by_instance : (job : Job) (n : Named) (mode : ℕ) (fate : Fate) (from : E) (s : FileSystem) (result : Result Done PartThere) (to : E) (after : FileSystem) → at_path h s.now m.part ≡ None → IsUtf8 n.path → (f : FileAt h Followed s.now n.path) → IsJobOf m.task (s.now.bytes (number_of f.file)) job
+  by_instance : (job : Job) (n : Named) (mode : ℕ) (fate : Fate) (from : E) (s : FileSystem) (result : Result Done RunStop) (to : E) (after : FileSystem) → at_path h s.now m.part ≡ None → IsUtf8 n.path → (f : FileAt h Followed s.now n.path) → IsJobOf m.task (s.now.bytes (number_of f.file)) job
       → EndsUnnamed m.task (s.now.bytes (number_of f.file)) fate → after.unremoved ≡ false → DoesByInstance (working {F = F} h r w e) job m n mode from s result to after → IsUnnamedAgain fate s result after
   by_instance job n mode fate from s result to after none path f of_job ends gone (instance.not_opened opens told is) = not_unopened h r w n.path s after path f opens
   by_instance job n mode fate from s result to after none path f of_job ends gone (instance.no_part input cause opened tried opens makes back tells) =
@@ -142,7 +142,7 @@ module _ {I O E : Type 0} (F : Type 0) (h : Host I O) (r : Reader I) (w : Writer
       again_by fate s opened result done after o.same is
       (filled job n.name mode input output (s.now.bytes (number_of f.file)) fate from opened made done to after here part.makes (ap h.took (same_ok (Ok output) part.output output part.is refl) ∙ part.new) o.sound o.holds of_job ends gone fills)
 
-  unnamed : (n : Named) (mode : ℕ) (fate : Fate) (from : E) (s : FileSystem) (result : Result Done PartThere) (to : E) (after : FileSystem) → at_path h s.now m.part ≡ None → IsUtf8 n.path → (f : FileAt h Followed s.now n.path) → EndsUnnamed m.task (s.now.bytes (number_of f.file)) fate
+  unnamed : (n : Named) (mode : ℕ) (fate : Fate) (from : E) (s : FileSystem) (result : Result Done RunStop) (to : E) (after : FileSystem) → at_path h s.now m.part ≡ None → IsUtf8 n.path → (f : FileAt h Followed s.now n.path) → EndsUnnamed m.task (s.now.bytes (number_of f.file)) fate
       → after.unremoved ≡ false → DoesUnnamed (working {F = F} h r w e) m n mode from s result to after → IsUnnamedAgain fate s result after
   unnamed n mode fate from s result to after none path f ends gone (instance.no_days cause finds told is) =
       let same : after ≡ s = jobs.finds_job h (as_whole h r) m.task n.path s (Err cause) after (works.finds_job (working_may h r w (may_do h)) (may_do h) (working_also h r w) (as_whole h r) m.task n.path s (Err cause) after finds) in
@@ -154,7 +154,7 @@ module _ {I O E : Type 0} (F : Type 0) (h : Host I O) (r : Reader I) (w : Writer
       let same : mid ≡ s = jobs.finds_job h (as_whole h r) m.task n.path s (Ok job) mid (works.finds_job (working_may h r w (may_do h)) (may_do h) (working_also h r w) (as_whole h r) m.task n.path s (Ok job) mid finds) in
       by_instance job n mode fate from s result to after none path f (job_found h r w all m.task n.path s (Ok job) mid path f finds) ends gone (subst (λ (t : FileSystem). DoesByInstance (working {F = F} h r w e) job m n mode from t result to after) same does)
 
-  pub file_unnamed : (n : Named) (mode : ℕ) (fate : Fate) (from : E) (s : FileSystem) (result : Result Done PartThere) (to : E) (after : FileSystem) → m.keeps_names ≡ false → is_media_index n.relative ≡ false → at_path h s.now m.part ≡ None → IsUtf8 n.path → (f : FileAt h Followed s.now n.path)
+  pub file_unnamed : (n : Named) (mode : ℕ) (fate : Fate) (from : E) (s : FileSystem) (result : Result Done RunStop) (to : E) (after : FileSystem) → m.keeps_names ≡ false → is_media_index n.relative ≡ false → at_path h s.now m.part ≡ None → IsUtf8 n.path → (f : FileAt h Followed s.now n.path)
       → EndsUnnamed m.task (s.now.bytes (number_of f.file)) fate → after.unremoved ≡ false → DoesFile (working {F = F} h r w e) m n mode from s result to after → IsUnnamedAgain fate s result after
   file_unnamed n mode fate from s result to after by no_index none path f ends gone (files.an_index index told is same) = true_false (is_media_index n.relative) index no_index
   file_unnamed n mode fate from s result to after by no_index none path f ends gone (files.keeps_name became index kept does is) = true_false m.keeps_names kept by

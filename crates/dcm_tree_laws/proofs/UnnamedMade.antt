@@ -15,7 +15,7 @@ use Rattle.dcm_trees.specs.declared.file.Done.{Done}
 use Rattle.dcm_trees.specs.declared.part.Naming.{Naming}
 use Rattle.dcm_trees.specs.declared.part.Naming.TheVariants.{Linked, Moved, NotFree, Failed}
 use Rattle.dcm_trees.specs.declared.part.NoPart.{NoPart}
-use Rattle.dcm_trees.specs.declared.part.PartThere.{PartThere}
+use Rattle.dcm_trees.specs.declared.progress.Stop.{Stop as RunStop}
 use Rattle.dcm_trees.specs.declared.place.Place.{Place}
 use Rattle.dcm_trees.specs.declared.place.Place.TheVariants as places
 use Rattle.dcm_trees.specs.declared.task.NoDays.{NoDays}
@@ -77,14 +77,14 @@ naming_unsettled Moved fate same written not settled = true_false (is_written fa
 naming_unsettled (NotFree place) fate same written not settled = true_false (is_ended (place_fate place same)) settled (place_unsettled place same)
 naming_unsettled Failed fate same written not settled = true_false (is_ended fates.Unwritten) settled refl
 
-tells_unwritten : {E : Type 0} (e : Writer E) (name : List ℕ) (cause : NoPart) (from : E) (became : Result Fate PartThere) (result : Result Done PartThere) (to : E) (done : Done) → TellsNoPart e name cause from became to → result ≡ unnamed became → result ≡ Ok done → done ≡ without_name fates.Unwritten
-tells_unwritten e name cause from became result to done (parts.of_another p c t is) r ok = absurd (not_ok (unnamed became) p done (ap unnamed is) (sym r ∙ ok))
+tells_unwritten : {E : Type 0} (e : Writer E) (name : List ℕ) (cause : NoPart) (from : E) (became : Result Fate RunStop) (result : Result Done RunStop) (to : E) (done : Done) → TellsNoPart e name cause from became to → result ≡ unnamed became → result ≡ Ok done → done ≡ without_name fates.Unwritten
+tells_unwritten e name cause from became result to done (parts.ends_run p c t is) r ok = absurd (not_ok (unnamed became) p done (ap unnamed is) (sym r ∙ ok))
   where
-    not_ok : (x : Result Done PartThere) (p : PartThere) (done : Done) → x ≡ Err p → x ≡ Ok done → ⊥
+    not_ok : (x : Result Done RunStop) (p : RunStop) (done : Done) → x ≡ Err p → x ≡ Ok done → ⊥
     not_ok x p done a b = absurd (cc)
 tells_unwritten e name cause from became result to done (parts.told c t is) r ok = same_ok result (without_name fates.Unwritten) done (r ∙ ap unnamed is) ok
 
-pub ends_unwritten : {E : Type 0} (e : Writer E) (name : List ℕ) (cause : NoPart) (from : E) (result : Result Done PartThere) (to : E) (done : Done) → EndsWithoutPart e name cause from result to → result ≡ Ok done → done ≡ without_name fates.Unwritten
+pub ends_unwritten : {E : Type 0} (e : Writer E) (name : List ℕ) (cause : NoPart) (from : E) (result : Result Done RunStop) (to : E) (done : Done) → EndsWithoutPart e name cause from result to → result ≡ Ok done → done ≡ without_name fates.Unwritten
 ends_unwritten e name cause from result to done (instance.ended became tells is) ok = tells_unwritten e name cause from became result to done tells is ok
 
 pub no_job_ends : (task : Task) (held : List ℕ) (cause : NoDays) → JobIs task held (Err cause) → EndsUnnamed task held (no_days_fate cause)
@@ -123,7 +123,7 @@ module _ {I O E : Type 0} (F : Type 0) (h : Host I O) (r : Reader I) (w : Writer
       ended_named name held (h.took f.written) d.verdict (ending_fate ending) told was_filled done to after (record { job = job; is_job = of_job; answered = d.answered }) (sym (ap is_written its) ∙ is) is part.text
       (followed h was_filled.now m.part whole.file leads whole.at whole.kind) whole.bytes names not settled
 
-  ended_ready : (job : Job) (n : Named) (mode : ℕ) (from : E) (s : FileSystem) (result : Result Done PartThere) (to : E) (after : FileSystem) (done : Done) → IsUtf8 n.path → (f : FileAt h Followed s.now n.path) → IsJobOf m.task (s.now.bytes (number_of f.file)) job
+  ended_ready : (job : Job) (n : Named) (mode : ℕ) (from : E) (s : FileSystem) (result : Result Done RunStop) (to : E) (after : FileSystem) (done : Done) → IsUtf8 n.path → (f : FileAt h Followed s.now n.path) → IsJobOf m.task (s.now.bytes (number_of f.file)) job
       → DoesByInstance (working {F = F} h r w e) job m n mode from s result to after → result ≡ Ok done → is_written done.fate ≡ false → is_ended done.fate ≡ true → Ended m.task (s.now.bytes (number_of f.file)) done
   ended_ready job n mode from s result to after done text f of_job (instance.not_opened opens told is) ok not settled = unsettled done fates.Unread (same_ok result (without_name fates.Unread) done is ok) refl settled
   ended_ready job n mode from s result to after done text f of_job (instance.no_part input cause opened tried opens makes back tells) ok not settled =
@@ -135,7 +135,7 @@ module _ {I O E : Type 0} (F : Type 0) (h : Host I O) (r : Reader I) (w : Writer
       (ended_filled job n.name mode input output (s.now.bytes (number_of f.file)) from opened made became to after (new_part {F = F} h m.part mode opened output made makes) o.sound o.holds of_job fills
       (sym (ap (λ (d : Done). is_written d.fate) same) ∙ not) (sym (ap (λ (d : Done). is_ended d.fate) same) ∙ settled))
 
-  pub ended : (n : Named) (mode : ℕ) (from : E) (s : FileSystem) (result : Result Done PartThere) (to : E) (after : FileSystem) (done : Done) → IsUtf8 n.path → (f : FileAt h Followed s.now n.path) → DoesUnnamed (working {F = F} h r w e) m n mode from s result to after → result ≡ Ok done
+  pub ended : (n : Named) (mode : ℕ) (from : E) (s : FileSystem) (result : Result Done RunStop) (to : E) (after : FileSystem) (done : Done) → IsUtf8 n.path → (f : FileAt h Followed s.now n.path) → DoesUnnamed (working {F = F} h r w e) m n mode from s result to after → result ≡ Ok done
       → is_written done.fate ≡ false → is_ended done.fate ≡ true → Ended m.task (s.now.bytes (number_of f.file)) done
   ended n mode from s result to after done text f (instance.no_days cause finds told is) ok not settled =
       ended_as m.task (s.now.bytes (number_of f.file)) done (no_days_fate cause) (same_ok result (without_name (no_days_fate cause)) done is ok)

@@ -296,7 +296,8 @@ pub part_made : {I O F : Type 0} (h : Host I O) (part : List ℕ) (mode : ℕ) (
 part_made h part mode before result after text none (parts.no_text t is same) = absurd (t text)
 part_made h part mode before result after text none (parts.made o t call is) = record { output = o.device; is = is; new = call.0.1; makes = call.0.0 }
 part_made h part mode before result after text none (parts.is_there e t call k is) = absurd (call.1.0 none)
-part_made h part mode before result after text none (parts.not_made e t call k is) = absurd (call.1.0 none)
+part_made h part mode before result after text none (parts.no_memory e t call k is) = absurd (call.1.0 none)
+part_made h part mode before result after text none (parts.not_made e t call k m is) = absurd (call.1.0 none)
 
 -- ---- the instance in a file
 

@@ -16,7 +16,7 @@ use Rattle.dcm_cli.specs.declared.ending.Ending.{Ending}
 use Rattle.dcm_trees.specs.declared.fate.Fate.{Fate}
 use Rattle.dcm_trees.specs.declared.file.Done.{Done}
 use Rattle.dcm_trees.specs.declared.part.Naming.{Naming}
-use Rattle.dcm_trees.specs.declared.part.PartThere.{PartThere}
+use Rattle.dcm_trees.specs.declared.progress.Stop.{Stop as RunStop}
 use Rattle.dcm_trees.specs.declared.progress.Shared.{Shared}
 use Rattle.dcm_trees.specs.declared.task.NoDays.{NoDays}
 use Rattle.dcm_trees.specs.File as files
@@ -165,7 +165,7 @@ module _ {S I O F E : Type 0} (w : World S I O F E) (more : MayDo S I O) (also :
   fills_and_names job m name path input output from before fate to after (parts.has_done ending filled told f done reports names) =
       parts.has_done ending filled told (fills w.may more also w.reader w.output job input output before ending filled f) done reports (names_output m name path _ told filled fate to after names)
 
-  ready : (job : Job) (m : Manner) (n : Named) (mode : ℕ) (path : List ℕ) (from : E) (before : S) (r : Result Fate PartThere) (to : E) (after : S) → DoesReady w job m n mode path from before r to after
+  ready : (job : Job) (m : Manner) (n : Named) (mode : ℕ) (path : List ℕ) (from : E) (before : S) (r : Result Fate RunStop) (to : E) (after : S) → DoesReady w job m n mode path from before r to after
       → DoesReady (with_calls w more e) job m n mode path from before r to after
   ready job m n mode path from before r to after (files.not_opened opens told is) = files.not_opened (opens_file w.may more also n.path before None after opens) told is
   ready job m n mode path from before r to after (files.no_part input cause opened tried opens makes back tells) =
@@ -174,17 +174,17 @@ module _ {S I O F E : Type 0} (w : World S I O F E) (more : MayDo S I O) (also :
       files.filled input output fate opened made (opens_file w.may more also n.path before (Some input) opened opens) (makes_part w.folders e can m.part mode opened (Ok output) made makes)
       (fills_and_names job m n.name path input output from made fate to after fill) is
 
-  free : (m : Manner) (n : Named) (mode : ℕ) (path : List ℕ) (from : E) (before : S) (r : Result Fate PartThere) (to : E) (after : S) → DoesFree w m n mode path from before r to after
+  free : (m : Manner) (n : Named) (mode : ℕ) (path : List ℕ) (from : E) (before : S) (r : Result Fate RunStop) (to : E) (after : S) → DoesFree w m n mode path from before r to after
       → DoesFree (with_calls w more e) m n mode path from before r to after
   free m n mode path from before r to after (files.no_days cause f told is) = files.no_days cause (finds_job w.may more also w.reader m.task n.path before (Err cause) after f) told is
   free m n mode path from before r to after (files.has_job job mid f does) = files.has_job job mid (finds_job w.may more also w.reader m.task n.path before (Ok job) mid f) (ready job m n mode path from mid r to after does)
 
-  placed : (m : Manner) (n : Named) (mode : ℕ) (path : List ℕ) (from : E) (before : S) (r : Result Fate PartThere) (to : E) (after : S) → DoesPlaced w m n mode path from before r to after
+  placed : (m : Manner) (n : Named) (mode : ℕ) (path : List ℕ) (from : E) (before : S) (r : Result Fate RunStop) (to : E) (after : S) → DoesPlaced w m n mode path from before r to after
       → DoesPlaced (with_calls w more e) m n mode path from before r to after
   placed m n mode path from before r to after (files.not_free place f nf told is) = files.not_free place (finds w.folders e can.sees path _ before place after f) nf told is
   placed m n mode path from before r to after (files.free place looked f nf does) = files.free place looked (finds w.folders e can.sees path _ before place looked f) nf (free m n mode path from looked r to after does)
 
-  named : (m : Manner) (n : Named) (mode : ℕ) (from : E) (before : S) (r : Result Fate PartThere) (to : E) (after : S) → DoesNamed w m n mode from before r to after → DoesNamed (with_calls w more e) m n mode from before r to after
+  named : (m : Manner) (n : Named) (mode : ℕ) (from : E) (before : S) (r : Result Fate RunStop) (to : E) (after : S) → DoesNamed w m n mode from before r to after → DoesNamed (with_calls w more e) m n mode from before r to after
   named m n mode from before r to after (files.too_long none told is same) = files.too_long none told is same
   named m n mode from before r to after (files.placed path is does) = files.placed path is (placed m n mode path from before r to after does)
 
@@ -221,7 +221,7 @@ module _ {S I O F E : Type 0} (w : World S I O F E) (more : MayDo S I O) (also :
   fills_by_instance job m name input output from before done to after (instance.has_done ending filled told f is reports names) =
       instance.has_done ending filled told (fills w.may more also w.reader w.output job input output before ending filled f) is reports (names_part m name _ told filled done to after names)
 
-  by_instance : (job : Job) (m : Manner) (n : Named) (mode : ℕ) (from : E) (before : S) (r : Result Done PartThere) (to : E) (after : S) → DoesByInstance w job m n mode from before r to after
+  by_instance : (job : Job) (m : Manner) (n : Named) (mode : ℕ) (from : E) (before : S) (r : Result Done RunStop) (to : E) (after : S) → DoesByInstance w job m n mode from before r to after
       → DoesByInstance (with_calls w more e) job m n mode from before r to after
   by_instance job m n mode from before r to after (instance.not_opened opens told is) = instance.not_opened (opens_file w.may more also n.path before None after opens) told is
   by_instance job m n mode from before r to after (instance.no_part input cause opened tried opens makes back ends) =
@@ -230,17 +230,17 @@ module _ {S I O F E : Type 0} (w : World S I O F E) (more : MayDo S I O) (also :
       instance.filled input output done opened made (opens_file w.may more also n.path before (Some input) opened opens) (makes_part w.folders e can m.part mode opened (Ok output) made makes)
       (fills_by_instance job m n.name input output from made done to after fill) is
 
-  unnamed : (m : Manner) (n : Named) (mode : ℕ) (from : E) (before : S) (r : Result Done PartThere) (to : E) (after : S) → DoesUnnamed w m n mode from before r to after → DoesUnnamed (with_calls w more e) m n mode from before r to after
+  unnamed : (m : Manner) (n : Named) (mode : ℕ) (from : E) (before : S) (r : Result Done RunStop) (to : E) (after : S) → DoesUnnamed w m n mode from before r to after → DoesUnnamed (with_calls w more e) m n mode from before r to after
   unnamed m n mode from before r to after (instance.no_days cause f told is) = instance.no_days cause (finds_job w.may more also w.reader m.task n.path before (Err cause) after f) told is
   unnamed m n mode from before r to after (instance.has_job job mid f does) =
       instance.has_job job mid (finds_job w.may more also w.reader m.task n.path before (Ok job) mid f) (by_instance job m n mode from mid r to after does)
 
-  file : (m : Manner) (n : Named) (mode : ℕ) (from : E) (before : S) (r : Result Done PartThere) (to : E) (after : S) → DoesFile w m n mode from before r to after → DoesFile (with_calls w more e) m n mode from before r to after
+  file : (m : Manner) (n : Named) (mode : ℕ) (from : E) (before : S) (r : Result Done RunStop) (to : E) (after : S) → DoesFile w m n mode from before r to after → DoesFile (with_calls w more e) m n mode from before r to after
   file m n mode from before r to after (files.an_index index told is same) = files.an_index index told is same
   file m n mode from before r to after (files.keeps_name became index kept does is) = files.keeps_name became index kept (named m n mode from before became to after does) is
   file m n mode from before r to after (files.by_instance index not does) = files.by_instance index not (unnamed m n mode from before r to after does)
 
-  pub does_name : (m : Manner) (n : Named) (what : What) (from : E) (before : S) (r : Result Done PartThere) (to : E) (after : S) → DoesName w m n what from before r to after → DoesName (with_calls w more e) m n what from before r to after
+  pub does_name : (m : Manner) (n : Named) (what : What) (from : E) (before : S) (r : Result Done RunStop) (to : E) (after : S) → DoesName w m n what from before r to after → DoesName (with_calls w more e) m n what from before r to after
   does_name m n what from before r to after (files.a_file mode is does) = files.a_file mode is (file m n mode from before r to after does)
   does_name m n what from before r to after (files.no_file other told is same) = files.no_file other told is same
 
@@ -249,5 +249,5 @@ module _ {S I O F E : Type 0} (w : World S I O F E) (more : MayDo S I O) (also :
   visits_name rows shared from told_before before n what r to told after (work.of_another share is t same ok) = work.of_another share is t same ok
   visits_name rows shared from told_before before n what r to told after (work.was_done done mid share does ends) =
       work.was_done done mid share (does_name (manner_of shared.manner) n what told_before before (Ok done) mid after does) ends
-  visits_name rows shared from told_before before n what r to told after (work.part_there p s share does is ok) =
-      work.part_there p s share (does_name (manner_of shared.manner) n what told_before before (Err p) told after does) is ok
+  visits_name rows shared from told_before before n what r to told after (work.ends_run p s share does is ok) =
+      work.ends_run p s share (does_name (manner_of shared.manner) n what told_before before (Err p) told after does) is ok

@@ -12,7 +12,7 @@ use Rattle.dcm_cli.specs.declared.ending.Ending.{Ending}
 use Rattle.dcm_trees.specs.declared.fate.Fate.{Fate}
 use Rattle.dcm_trees.specs.declared.fate.Fate.TheVariants as fates
 use Rattle.dcm_trees.specs.declared.part.NoPart.{NoPart}
-use Rattle.dcm_trees.specs.declared.part.PartThere.{PartThere}
+use Rattle.dcm_trees.specs.declared.progress.Stop.{Stop as RunStop}
 use Rattle.dcm_trees.specs.declared.place.Place.{Place}
 use Rattle.dcm_trees.specs.declared.place.Place.TheVariants as places
 use Rattle.dcm_trees.specs.declared.task.NoDays.{NoDays}
@@ -45,7 +45,7 @@ use Rattle.dcm_tree_laws.proofs.Steps.{Phase, idle, writing, whole, Steps, goes_
 pub true_false : (b : Bool) → b ≡ true → b ≡ false → ⊥
 true_false b e f = absurd (cc)
 
-pub not_ok : (r : Result Fate PartThere) (p : PartThere) (fate : Fate) → r ≡ Err p → r ≡ Ok fate → ⊥
+pub not_ok : (r : Result Fate RunStop) (p : RunStop) (fate : Fate) → r ≡ Err p → r ≡ Ok fate → ⊥
 not_ok r p fate a b = absurd (cc)
 
 pub not_written : {A : Type 0} (fate other : Fate) → fate ≡ other → is_written other ≡ false → is_written fate ≡ true → A
@@ -125,15 +125,15 @@ filled_named {I} {O} {F} h IsWhole r w e job m name path relative is mode input 
     output_named {I = I} {F = F} h IsWhole r w e m name path relative (h.took fills.written) is (ending_fate ending) told start was_filled fate to after
     (is_ready (h.took fills.written) (more i (is_filled_as h IsWhole r w m.part m.output (h.masked mode) job input output before ending was_filled fills (gives fills.left output fills.written ending new fills.finished done)))) names written
 
-pub tells_not : {E : Type 0} (e : Writer E) (name : List ℕ) (cause : NoPart) (from : E) (r : Result Fate PartThere) (to : E) (fate : Fate) → TellsNoPart e name cause from r to → r ≡ Ok fate → is_written fate ≡ false
-tells_not e name cause from r to fate (part_spec.of_another p c t is) ok = absurd (not_ok r p fate is ok)
+pub tells_not : {E : Type 0} (e : Writer E) (name : List ℕ) (cause : NoPart) (from : E) (r : Result Fate RunStop) (to : E) (fate : Fate) → TellsNoPart e name cause from r to → r ≡ Ok fate → is_written fate ≡ false
+tells_not e name cause from r to fate (part_spec.ends_run p c t is) ok = absurd (not_ok r p fate is ok)
 tells_not e name cause from r to fate (part_spec.told c t is) ok = ap is_written (same_ok r fates.Unwritten fate is ok)
 
 pub true_not : {A : Type 0} (fate : Fate) → is_written fate ≡ false → is_written fate ≡ true → A
 true_not {A} fate not written = not_written fate fate refl not written
 
 ready_named : {I O F E : Type 0} (h : Host I O) (IsWhole : ℕ → List ℕ → Type 0) (r : Reader I) (w : Writer O) (e : Writer E) (job : Job) (m : Manner) (n : Named) (mode : ℕ) (path relative : List ℕ) → path ≡ below m.output relative
-    → (from : E) (start before : FileSystem) (result : Result Fate PartThere) (to : E) (after : FileSystem) (fate : Fate) → OpenGives h IsWhole r w job n.path mode before → IsIdle h IsWhole m.part m.output idle start before → DoesReady (over {F = F} h r w e) job m n mode path from before result to after
+    → (from : E) (start before : FileSystem) (result : Result Fate RunStop) (to : E) (after : FileSystem) (fate : Fate) → OpenGives h IsWhole r w job n.path mode before → IsIdle h IsWhole m.part m.output idle start before → DoesReady (over {F = F} h r w e) job m n mode path from before result to after
     → result ≡ Ok fate → is_written fate ≡ true → NewOutput h IsWhole m.part m.output path start.now after.now
 ready_named h IsWhole r w e job m n mode path relative is from start before result to after fate gives i (spec.not_opened opens told f) ok written = not_written fate fates.Unread (same_ok result fates.Unread fate f ok) refl written
 ready_named h IsWhole r w e job m n mode path relative is from start before result to after fate gives i (spec.no_part input cause opened tried opens makes back tells) ok written =
@@ -144,14 +144,14 @@ ready_named {I} {O} {F} h IsWhole r w e job m n mode path relative is from start
     (ap is_written (sym (same_ok result became fate f ok)) ∙ written)
 
 free_named : {I O F E : Type 0} (h : Host I O) (IsWhole : ℕ → List ℕ → Type 0) (r : Reader I) (w : Writer O) (e : Writer E) (m : Manner) (n : Named) (mode : ℕ) (path relative : List ℕ) → path ≡ below m.output relative
-    → (from : E) (start before : FileSystem) (result : Result Fate PartThere) (to : E) (after : FileSystem) (fate : Fate) → FileGives h IsWhole r w m.task n.path mode before → IsIdle h IsWhole m.part m.output idle start before → DoesFree (over {F = F} h r w e) m n mode path from before result to after
+    → (from : E) (start before : FileSystem) (result : Result Fate RunStop) (to : E) (after : FileSystem) (fate : Fate) → FileGives h IsWhole r w m.task n.path mode before → IsIdle h IsWhole m.part m.output idle start before → DoesFree (over {F = F} h r w e) m n mode path from before result to after
     → result ≡ Ok fate → is_written fate ≡ true → NewOutput h IsWhole m.part m.output path start.now after.now
 free_named h IsWhole r w e m n mode path relative is from start before result to after fate gives i (spec.no_days cause f told c) ok written = not_written fate (no_days_fate cause) (same_ok result (no_days_fate cause) fate c ok) (days_not cause) written
 free_named {I} {O} {F} h IsWhole r w e m n mode path relative is from start before result to after fate gives i (spec.has_job job mid f does) ok written =
     ready_named {F = F} h IsWhole r w e job m n mode path relative is from start mid result to after fate (gives job mid f) (more i (quiet (finds_job h r m.task n.path before (Ok job) mid f))) does ok written
 
 placed_named : {I O F E : Type 0} (h : Host I O) (IsWhole : ℕ → List ℕ → Type 0) (r : Reader I) (w : Writer O) (e : Writer E) (m : Manner) (n : Named) (mode : ℕ) (path relative : List ℕ) → path ≡ below m.output relative
-    → (from : E) (start before : FileSystem) (result : Result Fate PartThere) (to : E) (after : FileSystem) (fate : Fate) → FileGives h IsWhole r w m.task n.path mode before → IsIdle h IsWhole m.part m.output idle start before → DoesPlaced (over {F = F} h r w e) m n mode path from before result to after
+    → (from : E) (start before : FileSystem) (result : Result Fate RunStop) (to : E) (after : FileSystem) (fate : Fate) → FileGives h IsWhole r w m.task n.path mode before → IsIdle h IsWhole m.part m.output idle start before → DoesPlaced (over {F = F} h r w e) m n mode path from before result to after
     → result ≡ Ok fate → is_written fate ≡ true → NewOutput h IsWhole m.part m.output path start.now after.now
 placed_named h IsWhole r w e m n mode path relative is from start before result to after fate gives i (spec.not_free place f nf told c) ok written =
     not_written fate (place_fate place m.continues) (same_ok result (place_fate place m.continues) fate c ok) (place_not place m.continues) written
@@ -163,7 +163,7 @@ placed_named {I} {O} {F} h IsWhole r w e m n mode path relative is from start be
 pub at_name : {I O : Type 0} (h : Host I O) (IsWhole : ℕ → List ℕ → Type 0) (part output path other : List ℕ) (start s : FileSystem) → path ≡ other → NewOutput h IsWhole part output path start.now s.now → NewOutput h IsWhole part output other start.now s.now
 at_name h IsWhole part output path other start s is out = subst (λ (p : List ℕ). NewOutput h IsWhole part output p start.now s.now) is out
 
-pub named_named : {I O F E : Type 0} (h : Host I O) (IsWhole : ℕ → List ℕ → Type 0) (r : Reader I) (w : Writer O) (e : Writer E) (m : Manner) (n : Named) (mode : ℕ) (from : E) (start before : FileSystem) (result : Result Fate PartThere) (to : E) (after : FileSystem) (fate : Fate)
+pub named_named : {I O F E : Type 0} (h : Host I O) (IsWhole : ℕ → List ℕ → Type 0) (r : Reader I) (w : Writer O) (e : Writer E) (m : Manner) (n : Named) (mode : ℕ) (from : E) (start before : FileSystem) (result : Result Fate RunStop) (to : E) (after : FileSystem) (fate : Fate)
     → FileGives h IsWhole r w m.task n.path mode before → IsIdle h IsWhole m.part m.output idle start before → DoesNamed (over {F = F} h r w e) m n mode from before result to after → result ≡ Ok fate → is_written fate ≡ true
     → NewOutput h IsWhole m.part m.output (below m.output n.relative) start.now after.now
 named_named h IsWhole r w e m n mode from start before result to after fate gives i (spec.too_long none told f same) ok written = not_written fate fates.Unwritten (same_ok result fates.Unwritten fate f ok) refl written

@@ -13,7 +13,7 @@ use Rattle.dcm_trees.specs.declared.fate.Fate.{Fate}
 use Rattle.dcm_trees.specs.declared.fate.Fate.TheVariants as fates
 use Rattle.dcm_trees.specs.declared.file.Done.{Done}
 use Rattle.dcm_trees.specs.declared.part.NoPart.{NoPart}
-use Rattle.dcm_trees.specs.declared.part.PartThere.{PartThere}
+use Rattle.dcm_trees.specs.declared.progress.Stop.{Stop as RunStop}
 use Rattle.dcm_trees.specs.Fate.{is_written, fate_of}
 use Rattle.dcm_trees.specs.File as spec
 use Rattle.dcm_trees.specs.File.{DoesNamed, DoesFile, DoesName, under_its_name}
@@ -68,17 +68,17 @@ filled_out {I} {O} {F} h IsWhole r w e job m name relative mode input output giv
     part_out {F = F} h IsWhole r w e m name relative (h.took fills.written) (ending_fate ending) told start was_filled done to after
     (is_ready (h.took fills.written) (more i (is_filled_as h IsWhole r w m.part m.output (h.masked mode) job input output before ending was_filled fills (gives fills.left output fills.written ending new fills.finished is)))) names written
 
-no_ok : (r : Result Done PartThere) (p : PartThere) (done : Done) → r ≡ Err p → r ≡ Ok done → ⊥
+no_ok : (r : Result Done RunStop) (p : RunStop) (done : Done) → r ≡ Err p → r ≡ Ok done → ⊥
 no_ok r p done a b = absurd (cc)
 
-not_unnamed : (became : Result Fate PartThere) (r : Result Done PartThere) (done : Done) → r ≡ unnamed became → r ≡ Ok done → ((fate : Fate) → became ≡ Ok fate → is_written fate ≡ false) → is_written done.fate ≡ false
+not_unnamed : (became : Result Fate RunStop) (r : Result Done RunStop) (done : Done) → r ≡ unnamed became → r ≡ Ok done → ((fate : Fate) → became ≡ Ok fate → is_written fate ≡ false) → is_written done.fate ≡ false
 not_unnamed (Ok fate) r done is ok not = ap (λ (d : Done). is_written d.fate) (same_ok r (without_name fate) done is ok) ∙ not fate refl
 not_unnamed (Err p) r done is ok not = absurd (no_ok r p done is ok)
 
-pub ends_not : {E : Type 0} (e : Writer E) (name : List ℕ) (cause : NoPart) (from : E) (r : Result Done PartThere) (to : E) (done : Done) → EndsWithoutPart e name cause from r to → r ≡ Ok done → is_written done.fate ≡ false
+pub ends_not : {E : Type 0} (e : Writer E) (name : List ℕ) (cause : NoPart) (from : E) (r : Result Done RunStop) (to : E) (done : Done) → EndsWithoutPart e name cause from r to → r ≡ Ok done → is_written done.fate ≡ false
 ends_not e name cause from r to done (instance.ended became tells is) ok = not_unnamed became r done is ok (λ fate was. tells_not e name cause from became to fate tells was)
 
-instance_out : {I O F E : Type 0} (h : Host I O) (IsWhole : ℕ → List ℕ → Type 0) (r : Reader I) (w : Writer O) (e : Writer E) (job : Job) (m : Manner) (n : Named) (mode : ℕ) (from : E) (start before : FileSystem) (result : Result Done PartThere) (to : E) (after : FileSystem) (done : Done)
+instance_out : {I O F E : Type 0} (h : Host I O) (IsWhole : ℕ → List ℕ → Type 0) (r : Reader I) (w : Writer O) (e : Writer E) (job : Job) (m : Manner) (n : Named) (mode : ℕ) (from : E) (start before : FileSystem) (result : Result Done RunStop) (to : E) (after : FileSystem) (done : Done)
     → OpenGives h IsWhole r w job n.path mode before → IsIdle h IsWhole m.part m.output idle start before → DoesByInstance (over {F = F} h r w e) job m n mode from before result to after → result ≡ Ok done → is_written done.fate ≡ true → OutputOf h IsWhole m n.relative done start after
 instance_out h IsWhole r w e job m n mode from start before result to after done gives i (instance.not_opened opens told is) ok written = no_output done fates.Unread (same_ok result (without_name fates.Unread) done is ok) refl written
 instance_out h IsWhole r w e job m n mode from start before result to after done gives i (instance.no_part input cause opened tried opens makes back ends) ok written =
@@ -89,7 +89,7 @@ instance_out {I} {O} {F} h IsWhole r w e job m n mode from start before result t
     (more (more i (quiet (opens_file {I = I} h n.path before (Some input) opened opens))) (part_is_made {F = F} h IsWhole m.part m.output mode opened output made makes)) fills
     (ap (λ (d : Done). is_written d.fate) (sym (same_ok result became done is ok)) ∙ written))
 
-unnamed_out : {I O F E : Type 0} (h : Host I O) (IsWhole : ℕ → List ℕ → Type 0) (r : Reader I) (w : Writer O) (e : Writer E) (m : Manner) (n : Named) (mode : ℕ) (from : E) (start before : FileSystem) (result : Result Done PartThere) (to : E) (after : FileSystem) (done : Done)
+unnamed_out : {I O F E : Type 0} (h : Host I O) (IsWhole : ℕ → List ℕ → Type 0) (r : Reader I) (w : Writer O) (e : Writer E) (m : Manner) (n : Named) (mode : ℕ) (from : E) (start before : FileSystem) (result : Result Done RunStop) (to : E) (after : FileSystem) (done : Done)
     → FileGives h IsWhole r w m.task n.path mode before → IsIdle h IsWhole m.part m.output idle start before → DoesUnnamed (over {F = F} h r w e) m n mode from before result to after → result ≡ Ok done → is_written done.fate ≡ true → OutputOf h IsWhole m n.relative done start after
 unnamed_out h IsWhole r w e m n mode from start before result to after done gives i (instance.no_days cause f told is) ok written =
     no_output done (no_days_fate cause) (same_ok result (without_name (no_days_fate cause)) done is ok) (days_not cause) written
@@ -98,7 +98,7 @@ unnamed_out {I} {O} {F} h IsWhole r w e m n mode from start before result to aft
 
 -- ---- each name
 
-kept_out : {I O F E : Type 0} (h : Host I O) (IsWhole : ℕ → List ℕ → Type 0) (r : Reader I) (w : Writer O) (e : Writer E) (m : Manner) (n : Named) (mode : ℕ) (from : E) (start before : FileSystem) (became : Result Fate PartThere) (result : Result Done PartThere) (to : E) (after : FileSystem)
+kept_out : {I O F E : Type 0} (h : Host I O) (IsWhole : ℕ → List ℕ → Type 0) (r : Reader I) (w : Writer O) (e : Writer E) (m : Manner) (n : Named) (mode : ℕ) (from : E) (start before : FileSystem) (became : Result Fate RunStop) (result : Result Done RunStop) (to : E) (after : FileSystem)
     (done : Done) → FileGives h IsWhole r w m.task n.path mode before → IsIdle h IsWhole m.part m.output idle start before → DoesNamed (over {F = F} h r w e) m n mode from before became to after → result ≡ under_its_name became → result ≡ Ok done → is_written done.fate ≡ true
     → OutputOf h IsWhole m n.relative done start after
 kept_out {I} {O} {F} h IsWhole r w e m n mode from start before (Ok fate) result to after done gives i does is ok written =
@@ -107,14 +107,14 @@ kept_out {I} {O} {F} h IsWhole r w e m n mode from start before (Ok fate) result
     (named_named {F = F} h IsWhole r w e m n mode from start before (Ok fate) to after fate gives i does refl (ap (λ (d : Done). is_written d.fate) (sym same) ∙ written))
 kept_out h IsWhole r w e m n mode from start before (Err p) result to after done gives i does is ok written = absurd (no_ok result p done is ok)
 
-file_out : {I O F E : Type 0} (h : Host I O) (IsWhole : ℕ → List ℕ → Type 0) (r : Reader I) (w : Writer O) (e : Writer E) (m : Manner) (n : Named) (mode : ℕ) (from : E) (start before : FileSystem) (result : Result Done PartThere) (to : E) (after : FileSystem) (done : Done)
+file_out : {I O F E : Type 0} (h : Host I O) (IsWhole : ℕ → List ℕ → Type 0) (r : Reader I) (w : Writer O) (e : Writer E) (m : Manner) (n : Named) (mode : ℕ) (from : E) (start before : FileSystem) (result : Result Done RunStop) (to : E) (after : FileSystem) (done : Done)
     → FileGives h IsWhole r w m.task n.path mode before → IsIdle h IsWhole m.part m.output idle start before → DoesFile (over {F = F} h r w e) m n mode from before result to after → result ≡ Ok done → is_written done.fate ≡ true → OutputOf h IsWhole m n.relative done start after
 file_out h IsWhole r w e m n mode from start before result to after done gives i (spec.an_index index told is same) ok written = no_output done fates.MediaIndex (same_ok result (without_name fates.MediaIndex) done is ok) refl written
 file_out {I} {O} {F} h IsWhole r w e m n mode from start before result to after done gives i (spec.keeps_name became index keeps does is) ok written =
     kept_out {F = F} h IsWhole r w e m n mode from start before became result to after done gives i does is ok written
 file_out {I} {O} {F} h IsWhole r w e m n mode from start before result to after done gives i (spec.by_instance index keeps does) ok written = unnamed_out {F = F} h IsWhole r w e m n mode from start before result to after done gives i does ok written
 
-pub name_out : {I O F E : Type 0} (h : Host I O) (IsWhole : ℕ → List ℕ → Type 0) (r : Reader I) (w : Writer O) (e : Writer E) (m : Manner) (n : Named) (what : What) (from : E) (start before : FileSystem) (result : Result Done PartThere) (to : E) (after : FileSystem) (done : Done)
+pub name_out : {I O F E : Type 0} (h : Host I O) (IsWhole : ℕ → List ℕ → Type 0) (r : Reader I) (w : Writer O) (e : Writer E) (m : Manner) (n : Named) (what : What) (from : E) (start before : FileSystem) (result : Result Done RunStop) (to : E) (after : FileSystem) (done : Done)
     → ((mode : ℕ) → what ≡ File mode → FileGives h IsWhole r w m.task n.path mode before) → IsIdle h IsWhole m.part m.output idle start before → DoesName (over {F = F} h r w e) m n what from before result to after → result ≡ Ok done → is_written done.fate ≡ true → OutputOf h IsWhole m n.relative done start after
 name_out {I} {O} {F} h IsWhole r w e m n what from start before result to after done gives i (spec.a_file mode is does) ok written = file_out {F = F} h IsWhole r w e m n mode from start before result to after done (gives mode is) i does ok written
 name_out h IsWhole r w e m n what from start before result to after done gives i (spec.no_file other told is same) ok written = no_output done (fate_of what) (same_ok result (without_name (fate_of what)) done is ok) (what_not what) written

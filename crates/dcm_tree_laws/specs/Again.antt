@@ -18,7 +18,7 @@ use Rattle.dcm_cli.specs.Calls.{Reader, Reports}
 use Rattle.dcm_trees.specs.declared.beginning.Begun.{Begun}
 use Rattle.dcm_trees.specs.declared.fate.Fate.TheVariants.{There}
 use Rattle.dcm_trees.specs.declared.file.Done.{Done}
-use Rattle.dcm_trees.specs.declared.part.PartThere.{PartThere}
+use Rattle.dcm_trees.specs.declared.progress.Stop.{Stop as RunStop}
 use Rattle.dcm_trees.specs.declared.progress.Shared.{Shared}
 use Rattle.dcm_trees.specs.declared.run.TreeRun.{TreeRun}
 use Rattle.dcm_trees.specs.Fate.{is_written}
@@ -97,7 +97,7 @@ left_there = record { fate = There; instance = None }
 
 -- it is left as it is: it has that row, nothing is told, nothing is changed, and only looks are made
 pub record IsLeft {I O E : Type 0} (F : Type 0) (h : Host I O) (reader : Reader I) (output : Writer O)
-    (errors : Writer E) (m : Manner) (n : Named) (mode : ℕ) (from : E) (before : FileSystem) (r : Result Done PartThere)
+    (errors : Writer E) (m : Manner) (n : Named) (mode : ℕ) (from : E) (before : FileSystem) (r : Result Done RunStop)
     (to : E) (after : FileSystem) : Type 0 where
   pub row : r ≡ Ok left_there
   pub told : Reports errors from to []
@@ -107,7 +107,7 @@ pub record IsLeft {I O E : Type 0} (F : Type 0) (h : Host I O) (reader : Reader 
 -- so it is of a file whose output has its name and is there, in a run that goes on with what is there
 abbrev pub ThereIsLeft : {I O E : Type 0} → (F : Type 0) → Reader I → Writer O → Writer E → Type 0
 ThereIsLeft {I} {O} {E} F reader output errors =
-    (h : Host I O) (m : Manner) (n : Named) (mode : ℕ) (from : E) (before : FileSystem) (r : Result Done PartThere)
+    (h : Host I O) (m : Manner) (n : Named) (mode : ℕ) (from : E) (before : FileSystem) (r : Result Done RunStop)
     (to : E) (after : FileSystem) → m.continues ≡ true → m.keeps_names ≡ true
     → is_media_index n.relative ≡ false → IsThere h m.output n.relative before.now
     → DoesName (over_sure {F = F} h reader output errors) m n (File mode) from before r to after

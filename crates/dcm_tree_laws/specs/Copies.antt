@@ -20,7 +20,7 @@ use Rattle.dcm_trees.specs.declared.beginning.Begun.{Begun}
 use Rattle.dcm_trees.specs.declared.fate.Fate.{Fate}
 use Rattle.dcm_trees.specs.declared.fate.Fate.TheVariants as fates
 use Rattle.dcm_trees.specs.declared.file.Done.{Done}
-use Rattle.dcm_trees.specs.declared.part.PartThere.{PartThere}
+use Rattle.dcm_trees.specs.declared.progress.Stop.{Stop as RunStop}
 use Rattle.dcm_trees.specs.declared.progress.Shared.{Shared}
 use Rattle.dcm_trees.specs.declared.run.TreeRun.{TreeRun}
 use Rattle.dcm_trees.specs.Fate.{is_written, fate_of, word}
@@ -84,7 +84,7 @@ pub record TellsOnly {E : Type 0} (errors : Writer E) (name : List ℕ) (verdict
 
 -- a file whose copy is there is done again, and left: it has that row, and nothing is changed
 pub record IsDoneAgain {E : Type 0} (errors : Writer E) (n : Named) (uids : Uids) (verdict : Verdict) (from : E)
-    (before : FileSystem) (r : Result Done PartThere) (to : E) (after : FileSystem) : Type 0 where
+    (before : FileSystem) (r : Result Done RunStop) (to : E) (after : FileSystem) : Type 0 where
   pub done : Done
   pub row : r ≡ Ok done
   pub there : IsThereAs uids done
@@ -95,7 +95,7 @@ pub record IsDoneAgain {E : Type 0} (errors : Writer E) (n : Named) (uids : Uids
 abbrev pub CopyIsLeft : {I O E : Type 0} → (F : Type 0) → Reader I → Writer O → Writer E → Type 0
 CopyIsLeft {I} {O} {E} F reader output errors =
     (h : Host I O) (m : Manner) (n : Named) (mode : ℕ) (uids : Uids) (from : E) (before : FileSystem)
-    (r : Result Done PartThere) (to : E) (after : FileSystem) → TellsAll h output → m.keeps_names ≡ false
+    (r : Result Done RunStop) (to : E) (after : FileSystem) → TellsAll h output → m.keeps_names ≡ false
     → is_media_index n.relative ≡ false → IsUtf8 m.part → at_path h before.now m.part ≡ None
     → FollowsLinks h before.now → FilesFit before.now → (c : HasCopy h m.task m.output before.now n.path uids)
     → DoesName (working {F = F} h reader output errors) m n (File mode) from before r to after
@@ -113,7 +113,7 @@ pub data EndsUnnamed (task : Task) (bytes : List ℕ) (fate : Fate) : Type 0 whe
       → EndsUnnamed task bytes fate
 
 -- it ends so again, and all is as it was
-pub record IsUnnamedAgain (fate : Fate) (before : FileSystem) (r : Result Done PartThere) (after : FileSystem)
+pub record IsUnnamedAgain (fate : Fate) (before : FileSystem) (r : Result Done RunStop) (after : FileSystem)
     : Type 0 where
   pub row : r ≡ Ok (without_name fate)
   pub same : IsAsItWas before.now after.now
@@ -121,7 +121,7 @@ pub record IsUnnamedAgain (fate : Fate) (before : FileSystem) (r : Result Done P
 abbrev pub UnnamedIsLeft : {I O E : Type 0} → (F : Type 0) → Reader I → Writer O → Writer E → Type 0
 UnnamedIsLeft {I} {O} {E} F reader output errors =
     (h : Host I O) (m : Manner) (n : Named) (mode : ℕ) (fate : Fate) (from : E) (before : FileSystem)
-    (r : Result Done PartThere) (to : E) (after : FileSystem) → TellsAll h output
+    (r : Result Done RunStop) (to : E) (after : FileSystem) → TellsAll h output
     → m.keeps_names ≡ false → is_media_index n.relative ≡ false → IsUtf8 m.part → at_path h before.now m.part ≡ None
     → FollowsLinks h before.now → IsUtf8 n.path → (f : FileAt h Followed before.now n.path)
     → EndsUnnamed m.task (before.now.bytes (number_of f.file)) fate

@@ -12,7 +12,7 @@ use Rattle.dcm_cli.specs.Calls.{Reader}
 use Rattle.dcm_trees.specs.declared.beginning.Begun.{Begun}
 use Rattle.dcm_trees.specs.declared.fate.Fate.TheVariants as fates
 use Rattle.dcm_trees.specs.declared.file.Done.{Done}
-use Rattle.dcm_trees.specs.declared.part.PartThere.{PartThere}
+use Rattle.dcm_trees.specs.declared.progress.Stop.{Stop as RunStop}
 use Rattle.dcm_trees.specs.declared.progress.Shared.{Shared}
 use Rattle.dcm_trees.specs.declared.run.TreeRun.{TreeRun}
 use Rattle.dcm_trees.specs.Fate.{is_written, has_output, fate_of}
@@ -42,7 +42,7 @@ pub record EndsWithout (task : Task) (bytes : List ℕ) (done : Done) : Type 0 w
   pub not : is_written done.fate ≡ false
 
 -- it has that row again, and all is as it was
-pub record IsWithoutAgain (done : Done) (before : FileSystem) (r : Result Done PartThere) (after : FileSystem)
+pub record IsWithoutAgain (done : Done) (before : FileSystem) (r : Result Done RunStop) (after : FileSystem)
     : Type 0 where
   pub row : r ≡ Ok done
   pub same : IsAsItWas before.now after.now
@@ -51,7 +51,7 @@ pub record IsWithoutAgain (done : Done) (before : FileSystem) (r : Result Done P
 abbrev pub WithoutIsLeft : {I O E : Type 0} → (F : Type 0) → Reader I → Writer O → Writer E → Type 0
 WithoutIsLeft {I} {O} {E} F reader output errors =
     (h : Host I O) (m : Manner) (n : Named) (mode : ℕ) (done : Done) (from : E) (before : FileSystem)
-    (r : Result Done PartThere) (to : E) (after : FileSystem) → TellsAll h output → m.keeps_names ≡ true
+    (r : Result Done RunStop) (to : E) (after : FileSystem) → TellsAll h output → m.keeps_names ≡ true
     → is_media_index n.relative ≡ false → IsUtf8 m.part → at_path h before.now m.part ≡ None → IsUtf8 n.path
     → (f : FileAt h Followed before.now n.path) → EndsWithout m.task (before.now.bytes (number_of f.file)) done
     → IsFree h m.output n.relative before.now

@@ -105,8 +105,8 @@ pub fn bytes_say_the_end()
 /// A run that names outputs by the instances in them does each file again. Where its output is there, with the same
 /// bytes, that is left, the row is `there`, and only what the job came to is told. What has no job, or is refused, or
 /// names no instance, ends so again. Where that is so of all names, all is at the end as it was. So it is after a first
-/// run each of whose files was written, or was there, or ended so. The rows are those of the first run, but `there` for
-/// `written` and `unplaced`. It is said where no call fails that need not.
+/// run each of whose files was written, or was there with the status 0, or ended so. The rows are those of the first
+/// run, but `there` for `written` and `unplaced`. It is said where no call fails that need not.
 pub fn again_is_as_it_was<I: DeviceIn, O: DeviceOut, W: DeviceOut, E: DeviceOut, F>()
     ensures made { CopiesAreThere F I.DeviceIn O.DeviceOut W.DeviceOut E.DeviceOut }
     ensures made_by_list { CopiesAreThereOfList F I.DeviceIn O.DeviceOut W.DeviceOut E.DeviceOut }
@@ -120,9 +120,9 @@ pub fn again_is_as_it_was<I: DeviceIn, O: DeviceOut, W: DeviceOut, E: DeviceOut,
 
 /// A second run that goes on and keeps names leaves all as it was. Its rows are those of the first, but `there` for
 /// `written` and `unplaced`. It is of the same task and share, into the same folder, and visits the same names. So it
-/// is after a first run each of whose files was there at its start, and was written, or was there, or was refused. The
-/// output of what was refused is still free, as it stays where no other name comes to be there, or on its way. Then
-/// that is refused again. It is said where no call fails that need not.
+/// is after a first run each of whose files was there at its start, and was written, or was there with the status 0, or
+/// was refused. The output of what was refused is still free, as it stays where no other name comes to be there, or on
+/// its way. Then that is refused again. It is said where no call fails that need not.
 pub fn again_keeps_names<I: DeviceIn, O: DeviceOut, W: DeviceOut, E: DeviceOut, F>()
     ensures made { KeptIsThere F I.DeviceIn O.DeviceOut W.DeviceOut E.DeviceOut }
     ensures made_by_list { KeptIsThereOfList F I.DeviceIn O.DeviceOut W.DeviceOut E.DeviceOut }
@@ -163,7 +163,8 @@ pub fn names_are_shared()
 /// no run ends before its last name. Names that come to one output have one mode and the same bytes, and no output is
 /// on the way to another one. What becomes of a name that its output keeps is told by what was there before the first
 /// run, and so is its row. Where instances name the outputs, each row is told so too, with the instance in it. Of names
-/// that come to one output the first that is done is written, and each one behind it has `there`.
+/// that come to one output the first that is done is written, and each one behind it has `there`. The rows are told
+/// where no output is taken by a folder, a link or a path that is too long.
 pub fn parts_are_one<I: DeviceIn, O: DeviceOut, W: DeviceOut, E: DeviceOut, F>()
     ensures files { PartsAreOne F I.DeviceIn O.DeviceOut W.DeviceOut E.DeviceOut }
     ensures instances { InstancesAreOne F I.DeviceIn O.DeviceOut W.DeviceOut E.DeviceOut }

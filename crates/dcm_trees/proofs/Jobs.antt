@@ -20,7 +20,7 @@ use Rattle.dcm_words.specs.declared.job.Job.{Job as AnyJob}
 use Rattle.dcm_words.specs.declared.job.Job.TheVariants as jobs
 use Rattle.dcm_trees.specs.declared.fate.Fate.{Fate}
 use Rattle.dcm_trees.specs.declared.file.Done.{Done}
-use Rattle.dcm_trees.specs.declared.part.PartThere.{PartThere}
+use Rattle.dcm_trees.specs.declared.progress.Stop.{Stop as RunStop}
 use Rattle.dcm_trees.specs.File.{DoesReady}
 use Rattle.dcm_trees.specs.Instance.{DoesByInstance, PlacesPart, NamesPart}
 use Rattle.dcm_trees.specs.Manner.{Manner}
@@ -29,12 +29,12 @@ use Rattle.dcm_trees.specs.Program.{Deidentifies, RunsAs, RunsTask}
 use Rattle.dcm_trees.specs.Task.{Task, same}
 use Rattle.dcm_trees.specs.World.{World}
 
-pub ready_by : {S I O F E : Type 0} {w : World S I O F E} {m : Manner} {n : Named} {mode : ℕ} {path : List ℕ} {from : E} {before : S} {r : Result Fate PartThere} {to : E} {after : S} (job other : Job)
+pub ready_by : {S I O F E : Type 0} {w : World S I O F E} {m : Manner} {n : Named} {mode : ℕ} {path : List ℕ} {from : E} {before : S} {r : Result Fate RunStop} {to : E} {after : S} (job other : Job)
     → job ≡ other → DoesReady w job m n mode path from before r to after → DoesReady w other m n mode path from before r to after
 ready_by {S} {I} {O} {F} {E} {w} {m} {n} {mode} {path} {from} {before} {r} {to} {after} job other is does =
     subst (λ (j : Job). DoesReady w j m n mode path from before r to after) is does
 
-pub instance_by : {S I O F E : Type 0} {w : World S I O F E} {m : Manner} {n : Named} {mode : ℕ} {from : E} {before : S} {r : Result Done PartThere} {to : E} {after : S} (job other : Job)
+pub instance_by : {S I O F E : Type 0} {w : World S I O F E} {m : Manner} {n : Named} {mode : ℕ} {from : E} {before : S} {r : Result Done RunStop} {to : E} {after : S} (job other : Job)
     → job ≡ other → DoesByInstance w job m n mode from before r to after → DoesByInstance w other m n mode from before r to after
 instance_by {S} {I} {O} {F} {E} {w} {m} {n} {mode} {from} {before} {r} {to} {after} job other is does =
     subst (λ (j : Job). DoesByInstance w j m n mode from before r to after) is does

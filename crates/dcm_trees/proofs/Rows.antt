@@ -6,7 +6,7 @@ use Rattle.dcm_devices.specs.Device.{KeepsRoom, Tells}
 use Rattle.dcm_devices.specs.Writing.{Writer, Wrote}
 use Rattle.dcm_walk.specs.Visits.{Named}
 use Rattle.dcm_trees.specs.declared.fate.Fate.{Fate}
-use Rattle.dcm_trees.specs.declared.part.PartThere.{PartThere}
+use Rattle.dcm_trees.specs.declared.progress.Stop.{Stop as RunStop}
 use Rattle.dcm_trees.specs.File.{Manner, DoesPlaced}
 use Rattle.dcm_cli.specs.Calls.{Reports}
 use Rattle.dcm_trees.specs.World.{World}
@@ -24,7 +24,7 @@ row_went w text from mid to (Ok y) (Ok x) fine wrote bytes flushed room failed =
 row_went w text from mid to (Ok y) (Err e) fine wrote bytes flushed room failed = not_flushed e (bytes ∙ wrote.bytes) failed (room.0 ∙ room.1) refl
 
 -- a path by another form of it
-pub placed_at : {S I O F E : Type 0} {w : World S I O F E} {m : Manner} {n : Named} {mode : ℕ} {from : E} {before : S} {r : Result Fate PartThere} {to : E} {after : S} (path other : List ℕ)
+pub placed_at : {S I O F E : Type 0} {w : World S I O F E} {m : Manner} {n : Named} {mode : ℕ} {from : E} {before : S} {r : Result Fate RunStop} {to : E} {after : S} (path other : List ℕ)
     → path ≡ other → DoesPlaced w m n mode path from before r to after → DoesPlaced w m n mode other from before r to after
 placed_at {S} {I} {O} {F} {E} {w} {m} {n} {mode} {from} {before} {r} {to} {after} path other is does = subst (λ (p : List ℕ). DoesPlaced w m n mode p from before r to after) is does
 

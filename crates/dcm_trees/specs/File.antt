@@ -12,7 +12,7 @@ use Rattle.dcm_trees.specs.declared.fate.Fate.{Fate}
 use Rattle.dcm_trees.specs.declared.fate.Fate.TheVariants as fates
 use Rattle.dcm_trees.specs.declared.file.Done.{Done}
 use Rattle.dcm_trees.specs.declared.part.NoPart.{NoPart}
-use Rattle.dcm_trees.specs.declared.part.PartThere.{PartThere}
+use Rattle.dcm_trees.specs.declared.progress.Stop.{Stop as RunStop}
 use Rattle.dcm_trees.specs.declared.place.Place.{Place}
 use Rattle.dcm_trees.specs.declared.task.NoDays.{NoDays}
 use Rattle.dcm_trees.specs.Fate.{fate_of, text_of}
@@ -44,7 +44,7 @@ is_media_index relative = is_index relative || ends_in_index relative
 
 -- a job is done of a file at the name of whose output nothing is: it is opened, then the part is made, and it is done into that
 pub data DoesReady {S I O F E : Type 0} (w : World S I O F E) (job : Job) (m : Manner) (n : Named) (mode : ℕ) (path : List ℕ)
-    (from : E) (before : S) (r : Result Fate PartThere) (to : E) (after : S) : Type 0 where
+    (from : E) (before : S) (r : Result Fate RunStop) (to : E) (after : S) : Type 0 where
   not_opened : OpensFile w.may n.path before None after → Reports w.errors from to (unopened_line n.name)
       → r ≡ Ok fates.Unread → DoesReady w job m n mode path from before r to after
   no_part : (input : _) (cause : NoPart) (opened tried : S) → OpensFile w.may n.path before (Some input) opened
@@ -57,7 +57,7 @@ pub data DoesReady {S I O F E : Type 0} (w : World S I O F E) (job : Job) (m : M
 
 -- nothing is at the name of its output: its job is found, and done
 pub data DoesFree {S I O F E : Type 0} (w : World S I O F E) (m : Manner) (n : Named) (mode : ℕ) (path : List ℕ)
-    (from : E) (before : S) (r : Result Fate PartThere) (to : E) (after : S) : Type 0 where
+    (from : E) (before : S) (r : Result Fate RunStop) (to : E) (after : S) : Type 0 where
   no_days : (cause : NoDays) → FindsJob w.may w.reader m.task n.path before (Err cause) after
       → Reports w.errors from to (no_days_line n.name cause) → r ≡ Ok (no_days_fate cause)
       → DoesFree w m n mode path from before r to after
@@ -66,7 +66,7 @@ pub data DoesFree {S I O F E : Type 0} (w : World S I O F E) (m : Manner) (n : N
 
 -- what is at the name of its output is looked at first
 pub data DoesPlaced {S I O F E : Type 0} (w : World S I O F E) (m : Manner) (n : Named) (mode : ℕ) (path : List ℕ)
-    (from : E) (before : S) (r : Result Fate PartThere) (to : E) (after : S) : Type 0 where
+    (from : E) (before : S) (r : Result Fate RunStop) (to : E) (after : S) : Type 0 where
   not_free : (place : Place) → Finds w.folders path (length m.output + 1) before place after → is_free place ≡ false
       → Reports w.errors from to (place_lines n.name place m.continues) → r ≡ Ok (place_fate place m.continues)
       → DoesPlaced w m n mode path from before r to after
@@ -76,7 +76,7 @@ pub data DoesPlaced {S I O F E : Type 0} (w : World S I O F E) (m : Manner) (n :
 
 -- the path of its output is short enough, or not
 pub data DoesNamed {S I O F E : Type 0} (w : World S I O F E) (m : Manner) (n : Named) (mode : ℕ) (from : E)
-    (before : S) (r : Result Fate PartThere) (to : E) (after : S) : Type 0 where
+    (before : S) (r : Result Fate RunStop) (to : E) (after : S) : Type 0 where
   too_long : path_in m.output n.relative ≡ None → Reports w.errors from to (taken_line n.name)
       → r ≡ Ok fates.Unwritten → after ≡ before → DoesNamed w m n mode from before r to after
   placed : (path : List ℕ) → path_in m.output n.relative ≡ Some path
@@ -85,17 +85,17 @@ pub data DoesNamed {S I O F E : Type 0} (w : World S I O F E) (m : Manner) (n : 
 -- ---- a name
 
 -- what became of a name that gives its output its own
-abbrev pub under_its_name : Result Fate PartThere → Result Done PartThere
+abbrev pub under_its_name : Result Fate RunStop → Result Done RunStop
 under_its_name (Ok fate) = Ok (record { fate = fate; instance = None })
 under_its_name (Err p) = Err p
 
 -- a regular file: the index of a medium is left out; the output of another has its name, or that of the instance in it
 pub data DoesFile {S I O F E : Type 0} (w : World S I O F E) (m : Manner) (n : Named) (mode : ℕ) (from : E) (before : S)
-    (r : Result Done PartThere) (to : E) (after : S) : Type 0 where
+    (r : Result Done RunStop) (to : E) (after : S) : Type 0 where
   an_index : is_media_index n.relative ≡ true
       → Reports w.errors from to (named_line n.name (codes "DICOMDIR is left out"))
       → r ≡ under_its_name (Ok fates.MediaIndex) → after ≡ before → DoesFile w m n mode from before r to after
-  keeps_name : (became : Result Fate PartThere) → is_media_index n.relative ≡ false → m.keeps_names ≡ true
+  keeps_name : (became : Result Fate RunStop) → is_media_index n.relative ≡ false → m.keeps_names ≡ true
       → DoesNamed w m n mode from before became to after → r ≡ under_its_name became
       → DoesFile w m n mode from before r to after
   by_instance : is_media_index n.relative ≡ false → m.keeps_names ≡ false
@@ -103,7 +103,7 @@ pub data DoesFile {S I O F E : Type 0} (w : World S I O F E) (m : Manner) (n : N
 
 -- a name that is not entered
 pub data DoesName {S I O F E : Type 0} (w : World S I O F E) (m : Manner) (n : Named) (what : What) (from : E)
-    (before : S) (r : Result Done PartThere) (to : E) (after : S) : Type 0 where
+    (before : S) (r : Result Done RunStop) (to : E) (after : S) : Type 0 where
   a_file : (mode : ℕ) → what ≡ File mode → DoesFile w m n mode from before r to after
       → DoesName w m n what from before r to after
   no_file : ((mode : ℕ) → what ≢ File mode) → Reports w.errors from to (named_line n.name (text_of what))

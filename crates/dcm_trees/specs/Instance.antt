@@ -23,7 +23,7 @@ use Rattle.dcm_trees.specs.declared.file.Done.{Done}
 use Rattle.dcm_trees.specs.declared.part.Naming.{Naming}
 use Rattle.dcm_trees.specs.declared.part.Naming.TheVariants.{NotFree}
 use Rattle.dcm_trees.specs.declared.part.NoPart.{NoPart}
-use Rattle.dcm_trees.specs.declared.part.PartThere.{PartThere}
+use Rattle.dcm_trees.specs.declared.progress.Stop.{Stop as RunStop}
 use Rattle.dcm_trees.specs.declared.place.Place.{Place}
 use Rattle.dcm_trees.specs.declared.task.NoDays.{NoDays}
 use Rattle.dcm_trees.specs.declared.place.Place.TheVariants.{There}
@@ -162,19 +162,19 @@ pub data FillsByInstance {S I O F E : Type 0} (w : World S I O F E) (job : Job) 
       → NamesPart w m name (ending_fate ending) told filled done to after
       → FillsByInstance w job m name input output from before done to after
 
-abbrev pub unnamed : Result Fate PartThere → Result Done PartThere
+abbrev pub unnamed : Result Fate RunStop → Result Done RunStop
 unnamed (Ok fate) = Ok (without_name fate)
 unnamed (Err p) = Err p
 
 -- there is no part to write to
 pub data EndsWithoutPart {E : Type 0} (e : Writer E) (name : List ℕ) (cause : NoPart) (from : E)
-    (r : Result Done PartThere) (to : E) : Type 0 where
-  ended : (became : Result Fate PartThere) → TellsNoPart e name cause from became to → r ≡ unnamed became
+    (r : Result Done RunStop) (to : E) : Type 0 where
+  ended : (became : Result Fate RunStop) → TellsNoPart e name cause from became to → r ≡ unnamed became
       → EndsWithoutPart e name cause from r to
 
 -- the file is opened, then the part is made, and the job is done into that
 pub data DoesByInstance {S I O F E : Type 0} (w : World S I O F E) (job : Job) (m : Manner) (n : Named) (mode : ℕ)
-    (from : E) (before : S) (r : Result Done PartThere) (to : E) (after : S) : Type 0 where
+    (from : E) (before : S) (r : Result Done RunStop) (to : E) (after : S) : Type 0 where
   not_opened : OpensFile w.may n.path before None after → Reports w.errors from to (unopened_line n.name)
       → r ≡ Ok (without_name fates.Unread) → DoesByInstance w job m n mode from before r to after
   no_part : (input : _) (cause : NoPart) (opened tried : S) → OpensFile w.may n.path before (Some input) opened
@@ -187,7 +187,7 @@ pub data DoesByInstance {S I O F E : Type 0} (w : World S I O F E) (job : Job) (
 
 -- its job is found, and done
 pub data DoesUnnamed {S I O F E : Type 0} (w : World S I O F E) (m : Manner) (n : Named) (mode : ℕ) (from : E)
-    (before : S) (r : Result Done PartThere) (to : E) (after : S) : Type 0 where
+    (before : S) (r : Result Done RunStop) (to : E) (after : S) : Type 0 where
   no_days : (cause : NoDays) → FindsJob w.may w.reader m.task n.path before (Err cause) after
       → Reports w.errors from to (no_days_line n.name cause) → r ≡ Ok (without_name (no_days_fate cause))
       → DoesUnnamed w m n mode from before r to after

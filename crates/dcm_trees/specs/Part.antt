@@ -1,10 +1,10 @@
 -- The part: a file that a job is done into before it gets the name of an output.
 use Rattle.std.specs.Prelude.{◌≡◌, ◌≢◌, ℕ, ◌+◌, length, List, [], Bool, true, false}
-use Rattle.std.specs.Prelude.{Result, Ok, Err}
+use Rattle.std.specs.Prelude.{Option, Some, None, Result, Ok, Err}
 use Rattle.std.specs.IoError.{error_kind}
 use Rattle.std.specs.Str.{IsUtf8}
 use Rattle.std.specs.declared.io.Error.{Error}
-use Rattle.std.specs.declared.io.ErrorKind.TheVariants.{AlreadyExists}
+use Rattle.std.specs.declared.io.ErrorKind.TheVariants.{AlreadyExists, OutOfMemory}
 use Rattle.dcm_devices.specs.Writing.{Writer}
 use Rattle.dcm_files.specs.Devices.{MayDo}
 use Rattle.dcm_files.specs.Folders.{FoldersDo}
@@ -17,8 +17,9 @@ use Rattle.dcm_trees.specs.declared.fate.Fate.TheVariants as fates
 use Rattle.dcm_trees.specs.declared.part.Naming.{Naming}
 use Rattle.dcm_trees.specs.declared.part.Naming.TheVariants.{Linked, Moved, NotFree, Failed}
 use Rattle.dcm_trees.specs.declared.part.NoPart.{NoPart}
-use Rattle.dcm_trees.specs.declared.part.NoPart.TheVariants.{There as PartIsThere, NotMade as PartNotMade}
-use Rattle.dcm_trees.specs.declared.part.PartThere.{PartThere}
+use Rattle.dcm_trees.specs.declared.part.NoPart.TheVariants.{There as PartIsThere, Memory as PartWantsMemory, NotMade as PartNotMade}
+use Rattle.dcm_trees.specs.declared.progress.Stop.{Stop as RunStop}
+use Rattle.dcm_trees.specs.declared.progress.Stop.TheVariants as stops
 use Rattle.dcm_trees.specs.declared.place.NotMade.{NotMade}
 use Rattle.dcm_trees.specs.declared.place.Place.{Place}
 use Rattle.dcm_trees.specs.Fate.{is_written}
@@ -37,8 +38,10 @@ pub data MakesPart {S O F : Type 0} (d : FoldersDo S O F) (part : List ℕ) (mod
       → MakesPart d part mode before r after
   is_there : (e : Error) → IsUtf8 part → d.makes_as before part mode (Err e) after → error_kind e ≡ AlreadyExists
       → r ≡ Err PartIsThere → MakesPart d part mode before r after
+  no_memory : (e : Error) → IsUtf8 part → d.makes_as before part mode (Err e) after → error_kind e ≡ OutOfMemory
+      → r ≡ Err PartWantsMemory → MakesPart d part mode before r after
   not_made : (e : Error) → IsUtf8 part → d.makes_as before part mode (Err e) after → error_kind e ≢ AlreadyExists
-      → r ≡ Err PartNotMade → MakesPart d part mode before r after
+      → error_kind e ≢ OutOfMemory → r ≡ Err PartNotMade → MakesPart d part mode before r after
 
 -- the part is removed, or stays where that fails
 pub data RemovesPart {S I O : Type 0} (may : MayDo S I O) (part : List ℕ) (before after : S) : Type 0 where
@@ -144,9 +147,15 @@ pub data FillsAndNames {S I O F E : Type 0} (w : World S I O F E) (job : Job) (m
       → NamesOutput w.may w.folders w.errors m name path (ending_fate ending) told filled fate to after
       → FillsAndNames w job m name path input output from before fate to after
 
--- there is no part to write to: another run's ends the run; else that is told
+-- what there is no part for ends the run, where another run's is there, and without memory
+abbrev pub stop_of : NoPart → Option RunStop
+stop_of PartIsThere = Some stops.PartThere
+stop_of PartWantsMemory = Some stops.Memory
+stop_of PartNotMade = None
+
+-- there is no part to write to: the run ends by that, or that is told
 pub data TellsNoPart {E : Type 0} (e : Writer E) (name : List ℕ) (cause : NoPart) (from : E)
-    (r : Result Fate PartThere) (to : E) : Type 0 where
-  of_another : (p : PartThere) → cause ≡ PartIsThere → to ≡ from → r ≡ Err p → TellsNoPart e name cause from r to
+    (r : Result Fate RunStop) (to : E) : Type 0 where
+  ends_run : (stop : RunStop) → stop_of cause ≡ Some stop → to ≡ from → r ≡ Err stop → TellsNoPart e name cause from r to
   told : cause ≡ PartNotMade → Reports e from to (taken_line name) → r ≡ Ok fates.Unwritten
       → TellsNoPart e name cause from r to

@@ -2,7 +2,7 @@
 use Rattle.std.specs.Prelude.{◌≡◌, ℕ, max, List, [], ◌++◌, codes, decimal, Bool, true, false, Option, Some, None}
 use Rattle.std.specs.Prelude.{Result, Ok, Err, if◌then◌else◌}
 use Rattle.dcm_names.specs.NamedLines.{named_line, unread_line}
-use Rattle.dcm_cli.specs.Status.{DONE, DEVICE}
+use Rattle.dcm_cli.specs.Status.{DONE, DEVICE, MEMORY}
 use Rattle.dcm_trees.specs.declared.beginning.Refusal.{Refusal}
 use Rattle.dcm_trees.specs.declared.beginning.Refusal.TheVariants as refusals
 use Rattle.dcm_trees.specs.declared.run.End.{End}
@@ -53,11 +53,14 @@ end_line Whole is_empty list part = whole_line is_empty
 end_line (Unread count) is_empty list part = unread_line list count
 end_line (Stopped stops.Manifest) is_empty list part = line (codes "output failed")
 end_line (Stopped stops.PartThere) is_empty list part = part_line part
+end_line (Stopped stops.Memory) is_empty list part = line (codes "out of memory")
 
 abbrev pub end_status : End → (is_empty : Bool) → ℕ
 end_status Whole is_empty = if is_empty then DEVICE else DONE
 end_status (Unread count) is_empty = DEVICE
-end_status (Stopped stop) is_empty = DEVICE
+end_status (Stopped stops.Manifest) is_empty = DEVICE
+end_status (Stopped stops.PartThere) is_empty = DEVICE
+end_status (Stopped stops.Memory) is_empty = MEMORY
 
 abbrev pub last_counts : (shows : Bool) → Tally → List ℕ
 last_counts shows tally = if shows then counts tally (codes "\n") else []

@@ -13,7 +13,7 @@ use Rattle.dcm_cli.specs.Calls.{Reports}
 use Rattle.dcm_cli.specs.Status.{DONE}
 use Rattle.dcm_trees.specs.declared.fate.Fate.{Fate}
 use Rattle.dcm_trees.specs.declared.file.Done.{Done}
-use Rattle.dcm_trees.specs.declared.part.PartThere.{PartThere}
+use Rattle.dcm_trees.specs.declared.progress.Stop.{Stop as RunStop}
 use Rattle.dcm_trees.specs.declared.tally.Tally.{Tally}
 use Rattle.dcm_trees.specs.declared.progress.Shared.{Shared}
 use Rattle.dcm_trees.specs.declared.progress.Stop.{Stop}
@@ -90,7 +90,7 @@ pub data EndsName {W E : Type 0} (w : Writer W) (e : Writer E) (shows : Bool) (n
 abbrev pub came : {W : Type 0} → Progress W → Progress W
 came p = record p { is_empty = false }
 
--- a name of another share is not done; of this one it is done, and gets its row; another run's part ends the run
+-- a name of another share is not done; of this one it is done, and gets its row, or ends the run
 pub data VisitsName {S I O F W E : Type 0} (w : World S I O F E) (manifest : Writer W) (shared : Shared)
     (from : Progress W) (told_before : E) (before : S) (n : Named) (what : What) (r : Result (Unit {0}) Stopped)
     (to : Progress W) (told : E) (after : S) : Type 0 where
@@ -100,9 +100,9 @@ pub data VisitsName {S I O F W E : Type 0} (w : World S I O F E) (manifest : Wri
       → DoesName w (manner_of shared.manner) n what told_before before (Ok done) mid after
       → EndsName manifest w.errors shared.shows_counts n done (came from) mid r to told
       → VisitsName w manifest shared from told_before before n what r to told after
-  part_there : (p : PartThere) (s : Stopped) → is_of shared.part.number shared.part.count n.relative ≡ true
-      → DoesName w (manner_of shared.manner) n what told_before before (Err p) told after
-      → to ≡ record (came from) { stop = Some stops.PartThere } → r ≡ Err s
+  ends_run : (stop : RunStop) (s : Stopped) → is_of shared.part.number shared.part.count n.relative ≡ true
+      → DoesName w (manner_of shared.manner) n what told_before before (Err stop) told after
+      → to ≡ record (came from) { stop = Some stop } → r ≡ Err s
       → VisitsName w manifest shared from told_before before n what r to told after
 
 -- what all names share stays

@@ -10,8 +10,9 @@ ghost use Rattle.dcm_trees.specs.World.{world};
 use crate::fate::{Fate, fate_of, text_of};
 use crate::instance::do_unnamed;
 use crate::lines::{tell_no_days, tell_place, tell_text};
-use crate::part::{NoPart, PartThere, fill_and_name, make_part, open_file, tell_no_part};
+use crate::part::{fill_and_name, make_part, open_file, tell_no_part};
 use crate::place::{Place, path_in, place_at};
+use crate::progress::Stop;
 use crate::task::{Task, task_of_file};
 use arrayvec::ArrayVec;
 use dcm_base::{DeviceOut, Watched};
@@ -51,7 +52,7 @@ pub struct Done {
 }
 
 /// What became of a name that gives its output its own.
-fn under_its_name(done: Result<Fate, PartThere>) -> Result<Done, PartThere>
+fn under_its_name(done: Result<Fate, Stop>) -> Result<Done, Stop>
     ensures { result ≡ spec.under_its_name done }
 {
     Ok(Done {
@@ -93,7 +94,7 @@ fn do_ready<S: Folders, E: DeviceOut>(
     path: &[u8],
     system: &mut S,
     errors: &mut Watched<E>,
-) -> Result<Fate, PartThere>
+) -> Result<Fate, Stop>
     requires { length manner.output.now + 1 ≤ length path.now }
     ensures { spec.DoesReady (world S.may_do S.folders_do S.Input.DeviceIn S.Output.DeviceOut E.DeviceOut)
         (job_of job.now) (manner_of manner.entry) (name_of named.now) mode path.now errors.old system.old result
@@ -122,7 +123,7 @@ fn do_free<S: Folders, E: DeviceOut>(
     path: &[u8],
     system: &mut S,
     errors: &mut Watched<E>,
-) -> Result<Fate, PartThere>
+) -> Result<Fate, Stop>
     requires { length manner.output.now + 1 ≤ length path.now }
     ensures { spec.DoesFree (world S.may_do S.folders_do S.Input.DeviceIn S.Output.DeviceOut E.DeviceOut)
         (manner_of manner.entry) (name_of named.now) mode path.now errors.old system.old result errors.new
@@ -142,7 +143,7 @@ fn do_placed<S: Folders, E: DeviceOut>(
     path: &[u8],
     system: &mut S,
     errors: &mut Watched<E>,
-) -> Result<Fate, PartThere>
+) -> Result<Fate, Stop>
     requires { length manner.output.now + 1 ≤ length path.now }
     ensures { spec.DoesPlaced (world S.may_do S.folders_do S.Input.DeviceIn S.Output.DeviceOut E.DeviceOut)
         (manner_of manner.entry) (name_of named.now) mode path.now errors.old system.old result errors.new
@@ -164,7 +165,7 @@ fn do_named<S: Folders, E: DeviceOut>(
     mode: u32,
     system: &mut S,
     errors: &mut Watched<E>,
-) -> Result<Fate, PartThere>
+) -> Result<Fate, Stop>
     ensures { spec.DoesNamed (world S.may_do S.folders_do S.Input.DeviceIn S.Output.DeviceOut E.DeviceOut)
         (manner_of manner.entry) (name_of named.now) mode errors.old system.old result errors.new system.new }
 {
@@ -181,7 +182,7 @@ fn do_file<S: Folders, E: DeviceOut>(
     mode: u32,
     system: &mut S,
     errors: &mut Watched<E>,
-) -> Result<Done, PartThere>
+) -> Result<Done, Stop>
     ensures { spec.DoesFile (world S.may_do S.folders_do S.Input.DeviceIn S.Output.DeviceOut E.DeviceOut)
         (manner_of manner.entry) (name_of named.now) mode errors.old system.old result errors.new system.new }
 {
@@ -196,14 +197,14 @@ fn do_file<S: Folders, E: DeviceOut>(
 }
 
 /// Does a name of a tree that is not entered: a file into its output; of another only a line tells why nothing is done.
-/// Answers what became of it. Fails where another run's part is there.
+/// Answers what became of it. Fails where another run's part is there, or without memory for an output.
 pub fn do_name<S: Folders, E: DeviceOut>(
     manner: Manner,
     named: &Named,
     what: What,
     system: &mut S,
     errors: &mut Watched<E>,
-) -> Result<Done, PartThere>
+) -> Result<Done, Stop>
     ensures { spec.DoesName (world S.may_do S.folders_do S.Input.DeviceIn S.Output.DeviceOut E.DeviceOut)
         (manner_of manner.entry) (name_of named.now) what errors.old system.old result errors.new system.new }
 {

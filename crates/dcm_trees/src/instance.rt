@@ -11,10 +11,11 @@ use crate::fate::Fate;
 use crate::file::{Done, Manner};
 use crate::lines::{tell_ending, tell_no_days, tell_place, tell_text};
 use crate::part::{
-    Naming, NoPart, PartThere, clear_part, fill, give_name, make_part, open_file, remove_part,
-    tell_naming, tell_no_part,
+    Naming, NoPart, clear_part, fill, give_name, make_part, open_file, remove_part, tell_naming,
+    tell_no_part,
 };
 use crate::place::{Place, path_in, place_at};
+use crate::progress::Stop;
 use crate::task::task_of_file;
 use dcm_base::{DeviceOut, Watched};
 use dcm_cli::Job;
@@ -227,12 +228,12 @@ fn end_without_part<E: DeviceOut>(
     name: &[u8],
     cause: NoPart,
     errors: &mut Watched<E>,
-) -> Result<Done, PartThere>
+) -> Result<Done, Stop>
     ensures { spec.EndsWithoutPart E.DeviceOut name.now cause errors.old result errors.new }
 {
     match tell_no_part(name, cause, errors) {
         Ok(fate) => Ok(without_name(fate)),
-        Err(there) => Err(there),
+        Err(stop) => Err(stop),
     }
 }
 
@@ -244,7 +245,7 @@ fn do_by_instance<S: Folders, E: DeviceOut>(
     mode: u32,
     system: &mut S,
     errors: &mut Watched<E>,
-) -> Result<Done, PartThere>
+) -> Result<Done, Stop>
     ensures { spec.DoesByInstance (world S.may_do S.folders_do S.Input.DeviceIn S.Output.DeviceOut E.DeviceOut)
         (job_of job.now) (manner_of manner.entry) (name_of named.now) mode errors.old system.old result errors.new
         system.new }
@@ -269,7 +270,7 @@ pub(crate) fn do_unnamed<S: Folders, E: DeviceOut>(
     mode: u32,
     system: &mut S,
     errors: &mut Watched<E>,
-) -> Result<Done, PartThere>
+) -> Result<Done, Stop>
     ensures { spec.DoesUnnamed (world S.may_do S.folders_do S.Input.DeviceIn S.Output.DeviceOut E.DeviceOut)
         (manner_of manner.entry) (name_of named.now) mode errors.old system.old result errors.new system.new }
 {

@@ -21,7 +21,7 @@ mod work;
 pub use beginning::{Begun, Refusal, begin};
 pub use fate::{Fate, fate_of, text_of};
 pub use file::{Done, InstanceName, Manner, do_name};
-pub use part::{Naming, NoPart, PartThere};
+pub use part::{Naming, NoPart};
 pub use place::{NotMade, OutputPath, Place, make_way, path_in, place_at};
 pub use program::obey_tree;
 pub use progress::{Shared, Stop, Work};

@@ -10,7 +10,8 @@ ghost use Rattle.dcm_trees.specs.World.{world};
 use crate::fate::Fate;
 use crate::file::Manner;
 use crate::lines::{tell_ending, tell_place, tell_text};
-use crate::place::{Place, make_way, place_at, was_there};
+use crate::place::{Place, make_way, place_at, wants_memory, was_there};
+use crate::progress::Stop;
 use dcm_base::{DeviceOut, Watched};
 use dcm_cli::Job;
 use dcm_cli::ending::Ending;
@@ -18,15 +19,13 @@ use dcm_cli::run::finish;
 use dcm_files::{FileKind, Folders, System};
 use std::str;
 
-/// What another run writes is there.
-#[derive(Clone, Copy, Debug, PartialEq, Eq)]
-pub struct PartThere;
-
 /// Why no part is there that could be written.
 #[derive(Clone, Copy, Debug, PartialEq, Eq)]
 pub enum NoPart {
     /// Another run's is.
     There,
+    /// There is no memory for its buffer.
+    Memory,
     /// It cannot be made.
     NotMade,
 }
@@ -83,6 +82,7 @@ pub(crate) fn make_part<S: Folders>(
     match system.create_as(text, mode) {
         Ok(opened) => Ok(opened.device),
         Err(e) if was_there(&e) => Err(NoPart::There),
+        Err(e) if wants_memory(&e) => Err(NoPart::Memory),
         Err(_) => Err(NoPart::NotMade),
     }
 }
@@ -251,16 +251,18 @@ pub(crate) fn fill_and_name<S: Folders, E: DeviceOut>(
     fate
 }
 
-/// Tells that there is no part to write to. Where another run's is there, the run ends without a line of the file.
+/// Tells that there is no part to write to. Where another run's is there, and without memory, the run ends without a
+/// line of the file.
 pub(crate) fn tell_no_part<E: DeviceOut>(
     name: &[u8],
     cause: NoPart,
     errors: &mut Watched<E>,
-) -> Result<Fate, PartThere>
+) -> Result<Fate, Stop>
     ensures { spec.TellsNoPart E.DeviceOut name.now cause errors.old result errors.new }
 {
     match cause {
-        NoPart::There => Err(PartThere),
+        NoPart::There => Err(Stop::PartThere),
+        NoPart::Memory => Err(Stop::Memory),
         NoPart::NotMade => {
             tell_text(name, b"output cannot be opened", errors);
             Ok(Fate::Unwritten)

@@ -143,6 +143,14 @@ pub(crate) fn was_there(e: &io::Error) -> bool
     matches!(e.kind(), ErrorKind::AlreadyExists)
 }
 
+/// Whether an error says that memory was refused.
+pub(crate) fn wants_memory(e: &io::Error) -> bool
+    ensures yes { result ≡ true → error_kind e.now ≡ ErrorKind.OutOfMemory }
+    ensures no { result ≡ false → error_kind e.now ≢ ErrorKind.OutOfMemory }
+{
+    matches!(e.kind(), ErrorKind::OutOfMemory)
+}
+
 /// Whether a folder is there, and no link to one.
 fn is_folder<S: Folders>(path: &[u8], system: &mut S) -> bool
     ensures { spec.FindsFolder S.folders_do path.now system.old result system.new }
@@ -171,7 +179,8 @@ fn have_folder<S: Folders>(path: &[u8], system: &mut S) -> Result<(), NotMade>
     }
 }
 
-/// Makes the folders on the way to a path that are not there.
+/// Makes the folders on the way to a path that are not there. Fails where what is there is no folder, a link to one
+/// too, or where the system makes none.
 pub fn make_way<S: Folders>(path: &[u8], base: usize, system: &mut S) -> Result<(), NotMade>
     requires { base ≤ length path.now }
     ensures { spec.MakesWay S.folders_do path.now base system.old result system.new }

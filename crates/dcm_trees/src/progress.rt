@@ -12,6 +12,8 @@ use dcm_tree_words::Part;
 pub enum Stop {
     /// What another run writes is there.
     PartThere,
+    /// There is no memory for an output.
+    Memory,
     /// The manifest cannot be written.
     Manifest,
 }

@@ -9,7 +9,7 @@ use dcm_table::{TextForm, put_quoted};
 /// The row above all others.
 const HEADER: &[u8] = b"\"File\",\"Output\",\"Status\"\n";
 
-/// Writes the header of a manifest.
+/// Writes the header of a manifest. Fails where the writer fails.
 pub fn put_header<W: DeviceOut>(out: &mut Watched<W>) -> Result<(), WriteFailed>
     ensures { Wrote W.DeviceOut out.old out.new spec.header result }
 {
@@ -54,7 +54,8 @@ fn put_rest<W: DeviceOut>(
     put_last(word, out)
 }
 
-/// Writes the row of a name: the name, that of its output, where it has one, and a word for what became of it.
+/// Writes the row of a name: the name, that of its output, where it has one, and a word for what became of it. Fails
+/// where the writer fails.
 pub fn put_row<W: DeviceOut>(
     name: &[u8],
     output: Option<&[u8]>,

@@ -13,14 +13,11 @@ use crate::tally::{Tally, put_counts};
 use crate::task::Task;
 use arrayvec::ArrayVec;
 use dcm_base::{DeviceOut, Watched, WriteFailed, flush_out};
-use dcm_cli::status::{DEVICE, DONE};
+use dcm_cli::status::{DEVICE, DONE, MEMORY};
 use dcm_names::{put_at_once, put_text, put_unread};
 use dcm_tree_words::TreeOptions;
-use dcm_walk::{ListEnd, Stopped};
+use dcm_walk::{ListEnd, PART, Stopped};
 use itoa::Buffer;
-
-/// How the part of a run is named, before its number.
-const PART: &[u8] = b".part.";
 
 /// The most bytes of that name.
 const MOST_OF_PART: usize = 16;
@@ -92,7 +89,7 @@ fn tell_end<E: DeviceOut>(
 ) -> u8
     ensures line { calls.Reports E.DeviceOut errors.old errors.new (spec.end_line end is_empty list.now part.now) }
     ensures status { result ≡ spec.end_status end is_empty }
-    ensures within { result ≤ statuses.DEVICE }
+    ensures within { result ≤ statuses.MEMORY }
 {
     match end {
         End::Whole if !is_empty => return DONE,
@@ -102,6 +99,10 @@ fn tell_end<E: DeviceOut>(
         }
         End::Stopped(Stop::Manifest) => tell_line(b"output failed", errors),
         End::Stopped(Stop::PartThere) => tell_part_there(part, errors),
+        End::Stopped(Stop::Memory) => {
+            tell_line(b"out of memory", errors);
+            return MEMORY;
+        }
     }
     DEVICE
 }
@@ -189,7 +190,7 @@ pub(crate) fn end_run<W: DeviceOut, E: DeviceOut>(
     ensures ends { spec.EndsRun E.DeviceOut (progress work.entry) work.entry.shared.shows_counts walked list.now
         part.now errors.old result.0 errors.new }
     ensures manifest { result.1 ≡ work.entry.manifest }
-    ensures within { result.0 ≤ statuses.DEVICE }
+    ensures within { result.0 ≤ statuses.MEMORY }
 {
     let end = end_of(walked, work.stop);
     let status = tell_end(end, work.is_empty, list, part, errors);

@@ -77,7 +77,7 @@ impl Tally {
     }
 }
 
-/// Writes the counts, and this behind them.
+/// Writes the counts, and this behind them. Fails where the writer fails.
 pub fn put_counts<E: DeviceOut>(
     tally: Tally,
     end: &[u8],

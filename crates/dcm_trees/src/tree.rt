@@ -67,7 +67,7 @@ fn visit_all<S: Folders, W: DeviceOut, E: DeviceOut>(
     ensures visits { spec.VisitsAll
         (world S.may_do S.folders_do S.Input.DeviceIn S.Output.DeviceOut E.DeviceOut) W.DeviceOut run.entry path.now
         begun folder manifest errors.old system.old result.0 result.1 errors.new system.new }
-    ensures within { result.0 ≤ statuses.DEVICE }
+    ensures within { result.0 ≤ statuses.MEMORY }
 {
     let mut work = Work::new(shared_of(run, begun.part.as_slice()), manifest);
     let walked = walk_folder(path, begun.number, folder, system, errors, &mut work);
@@ -89,7 +89,7 @@ fn visit_folder<S: Folders, W: DeviceOut, E: DeviceOut>(
     ensures visits { spec.VisitsFolder
         (world S.may_do S.folders_do S.Input.DeviceIn S.Output.DeviceOut E.DeviceOut) W.DeviceOut run.entry path.now
         begun folder manifest errors.old system.old result.0 result.1 errors.new system.new }
-    ensures within { result.0 ≤ statuses.DEVICE }
+    ensures within { result.0 ≤ statuses.MEMORY }
 {
     let mut manifest = manifest;
     match put_first_row(run.options.has_header, &mut manifest) {
@@ -114,7 +114,7 @@ fn visit_listed<S: Folders, W: DeviceOut, E: DeviceOut>(
     ensures visits { spec.VisitsListed
         (world S.may_do S.folders_do S.Input.DeviceIn S.Output.DeviceOut E.DeviceOut) W.DeviceOut run.entry list.now
         begun input.old manifest errors.old system.old result.0 result.1 errors.new system.new input.new }
-    ensures within { result.0 ≤ statuses.DEVICE }
+    ensures within { result.0 ≤ statuses.MEMORY }
 {
     let mut work = Work::new(shared_of(run, begun.part.as_slice()), manifest);
     let walked = walk_list(begun.number, input, system, errors, &mut work);
@@ -135,7 +135,7 @@ fn visit_list<S: Folders, W: DeviceOut, E: DeviceOut>(
     ensures visits { spec.VisitsList
         (world S.may_do S.folders_do S.Input.DeviceIn S.Output.DeviceOut E.DeviceOut) W.DeviceOut run.entry list.now
         begun input.old manifest errors.old system.old result.0 result.1 errors.new system.new input.new }
-    ensures within { result.0 ≤ statuses.DEVICE }
+    ensures within { result.0 ≤ statuses.MEMORY }
 {
     let mut manifest = manifest;
     match put_first_row(run.options.has_header, &mut manifest) {
@@ -153,7 +153,7 @@ fn refuse<W: DeviceOut, E: DeviceOut>(
 ) -> (u8, Watched<W>)
     ensures refuses { spec.Refuses E.DeviceOut run.entry refusal errors.old result.0 errors.new }
     ensures manifest { result.1 ≡ manifest }
-    ensures within { result.0 ≤ statuses.DEVICE }
+    ensures within { result.0 ≤ statuses.MEMORY }
 {
     let part = part_name(run.options.part.number);
     (tell_refusal(refusal, part.as_slice(), errors), manifest)
@@ -172,7 +172,7 @@ fn do_opened<S: Folders, W: DeviceOut, E: DeviceOut>(
     ensures does { spec.DoesOpened
         (world S.may_do S.folders_do S.Input.DeviceIn S.Output.DeviceOut E.DeviceOut) W.DeviceOut run.entry path.now
         folder manifest errors.old system.old result.0 result.1 errors.new system.new }
-    ensures within { result.0 ≤ statuses.DEVICE }
+    ensures within { result.0 ≤ statuses.MEMORY }
 {
     let part = part_name(run.options.part.number);
     let continues = run.options.continues;
@@ -196,7 +196,7 @@ fn do_folder<S: Folders, W: DeviceOut, E: DeviceOut>(
     ensures does { spec.DoesFolder
         (world S.may_do S.folders_do S.Input.DeviceIn S.Output.DeviceOut E.DeviceOut) W.DeviceOut run.entry path.now
         manifest errors.old system.old result.0 result.1 errors.new system.new }
-    ensures within { result.0 ≤ statuses.DEVICE }
+    ensures within { result.0 ≤ statuses.MEMORY }
 {
     if path.len() > MOST_OF_PATH {
         return refuse(run, Refusal::Input, manifest, errors);
@@ -219,7 +219,7 @@ fn do_names<S: Folders, W: DeviceOut, E: DeviceOut>(
     ensures does { spec.DoesNames
         (world S.may_do S.folders_do S.Input.DeviceIn S.Output.DeviceOut E.DeviceOut) W.DeviceOut run.entry list.now
         input.old manifest errors.old system.old result.0 result.1 errors.new system.new input.new }
-    ensures within { result.0 ≤ statuses.DEVICE }
+    ensures within { result.0 ≤ statuses.MEMORY }
 {
     let part = part_name(run.options.part.number);
     let continues = run.options.continues;
@@ -247,7 +247,7 @@ fn do_list<S: Folders, W: DeviceOut, E: DeviceOut>(
     ensures does { spec.DoesList
         (world S.may_do S.folders_do S.Input.DeviceIn S.Output.DeviceOut E.DeviceOut) W.DeviceOut run.entry list.now
         manifest errors.old system.old result.0 result.1 errors.new system.new }
-    ensures within { result.0 ≤ statuses.DEVICE }
+    ensures within { result.0 ≤ statuses.MEMORY }
 {
     match open_input(system, list) {
         Ok(opened) => {
@@ -274,7 +274,7 @@ pub fn do_tree<S: Folders, W: DeviceOut, E: DeviceOut>(
     ensures does { spec.DoesTree
         (world S.may_do S.folders_do S.Input.DeviceIn S.Output.DeviceOut E.DeviceOut) W.DeviceOut run.entry
         (source_as source.entry) manifest errors.old system.old result.0 result.1 errors.new system.new }
-    ensures within { result.0 ≤ statuses.DEVICE }
+    ensures within { result.0 ≤ statuses.MEMORY }
 {
     match source {
         Source::Folder(path) => do_folder(run, path, manifest, system, errors),

@@ -7,7 +7,6 @@ ghost use Rattle.dcm_trees.specs.World.{world};
 
 use crate::fate::Fate;
 use crate::file::{Done, InstanceName, do_name};
-use crate::part::PartThere;
 use crate::progress::{Shared, Stop, Work};
 use crate::row::put_row;
 use crate::share::is_of;
@@ -130,8 +129,8 @@ impl<'a, S: Folders, W: DeviceOut, E: DeviceOut> Visitor<S, Watched<E>> for Work
         }
         match do_name(self.shared.manner, &named, what, system, errors) {
             Ok(done) => self.end_name(&named, &done, errors),
-            Err(PartThere) => {
-                self.stop = Some(Stop::PartThere);
+            Err(stop) => {
+                self.stop = Some(stop);
                 Err(Stopped)
             }
         }

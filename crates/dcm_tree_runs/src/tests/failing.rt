@@ -14,9 +14,13 @@ const WORDS: &str = "dcmconv +r in out";
 /// The status of a run in which a device failed.
 const DEVICE: u8 = 4;
 
+/// The status of a run without memory.
+const MEMORY: u8 = 5;
+
 /// What is there afterwards, and what was told of it.
 #[derive(Clone, Copy)]
 struct Left<'a> {
+    status: u8,
     output: &'a [&'a str],
     told: &'a [u8],
     there: &'a [Entry],
@@ -32,7 +36,7 @@ fn expect_left(
     let mut output = bytes_of(alloc, left.output)?;
     output.truncate(devices.room);
     let wanted = Answer {
-        status: DEVICE,
+        status: left.status,
         output,
         told: left.told.to_vec(alloc)?,
         tree: tree_of(alloc, left.there)?,
@@ -51,6 +55,7 @@ const SIZE: usize = 186;
 fn full_disks(rt: HostRuntime) -> Result<(), Fail> {
     let before = [File(b"in/a", GOOD)];
     let left = Left {
+        status: DEVICE,
         output: &[HEADER, "\"a\",,\"unwritten\"\n"],
         told: b"dcmtools: a: output failed\n",
         there: &[File(b"in/a", GOOD), Folder(b"out")],
@@ -59,6 +64,33 @@ fn full_disks(rt: HostRuntime) -> Result<(), Fail> {
         expect_left(rt.alloc(), &before, TreeDevices { disk, ..SOUND }, &left)?;
     }
     Ok(())
+}
+
+/// Two files, and none of their outputs.
+static TWO: [Entry; 2] = [File(b"in/a", GOOD), File(b"in/b", OTHER)];
+
+/// The run ends where there is no memory for an output: those before it stay, and no other is made.
+#[test]
+fn memory_ends(rt: HostRuntime) -> Result<(), Fail> {
+    let none = Left {
+        status: MEMORY,
+        output: &[HEADER],
+        told: b"dcmtools: out of memory\n",
+        there: &[File(b"in/a", GOOD), File(b"in/b", OTHER), Folder(b"out")],
+    };
+    let memory = 0;
+    expect_left(rt.alloc(), &TWO, TreeDevices { memory, ..SOUND }, &none)?;
+    let one = Left {
+        output: &[HEADER, "\"a\",\"a\",\"written\"\n"],
+        there: &[
+            File(b"in/a", GOOD),
+            File(b"in/b", OTHER),
+            File(b"out/a", GOOD),
+        ],
+        ..none
+    };
+    let memory = 1;
+    expect_left(rt.alloc(), &TWO, TreeDevices { memory, ..SOUND }, &one)
 }
 
 /// A file whose reading fails, between others.
@@ -128,6 +160,7 @@ fn all_rows(alloc: Global) -> Result<Vec<&'static str>, AllocError> {
 /// Expects what is left where standard output fails at each byte of a row, before which it took so many.
 fn expect_stage(alloc: Global, rows: &[&str], stage: &Stage, before: usize) -> Result<(), Fail> {
     let left = Left {
+        status: DEVICE,
         output: rows,
         told: stage.told,
         there: stage.there,

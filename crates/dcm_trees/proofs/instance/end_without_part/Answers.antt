@@ -6,4 +6,4 @@ pub returns-in-Ok : goal.returns-in-Ok
 returns-in-Ok g c = spec.ended (Ok c.in-Ok.fate) c.in-Ok.ensures (ap Ok c.without_name.ensures)
 
 pub returns-in-Err : goal.returns-in-Err
-returns-in-Err g c = spec.ended (Err c.in-Err.there) c.in-Err.ensures refl
+returns-in-Err g c = spec.ended (Err c.in-Err.stop) c.in-Err.ensures refl
