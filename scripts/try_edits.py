@@ -33,7 +33,7 @@ import subprocess
 import sys
 import tempfile
 from pathlib import Path
-from typing import NamedTuple
+from typing import Callable, NamedTuple
 
 ROOT = Path(__file__).resolve().parent.parent
 OTHERS = ROOT / "scripts/edits"
@@ -287,11 +287,12 @@ def lost_goals(goals: list[tuple[str, str, str, str]], function: str) -> list[st
 # ---- the trying
 
 class Bench:
-    """A copy of the repository in which edits of a crate are checked, each time over what a check of the crate as it stands has kept."""
+    """A copy of the repository, with what its checks kept, in which edits of a crate are checked, each time over what a check of the
+    crate as it stands has kept."""
 
     def __init__(self, room: str):
         self.top, self.kept = Path(room) / "repository", Path(room) / "kept"
-        shutil.copytree(ROOT / "crates", self.top / "crates", ignore=shutil.ignore_patterns("out", "must-fail"))
+        copy_kept(ROOT / "crates", self.top / "crates", shutil.ignore_patterns("must-fail", "refused.tsv"))
         for name in ("crates.txt", "HANDLES"):
             shutil.copy(ROOT / name, self.top / name)
 
@@ -329,9 +330,13 @@ class Bench:
         return said
 
 
-def copy_kept(work: Path, to: Path) -> None:
+def copy_kept(work: Path, to: Path, left_out: Callable | None = None) -> None:
     """Copies what a check kept. Its large files by links: a check replaces such a file, and changes none."""
-    shutil.copytree(work, to, copy_function=lambda one, other: os.link(one, other) if one.endswith(".oantt") else shutil.copy2(one, other))
+
+    def copy(one: str, other: str) -> None:
+        (os.link if one.endswith(".oantt") else shutil.copy2)(one, other)
+
+    shutil.copytree(work, to, ignore=left_out, copy_function=copy)
 
 
 def together(crate: str, edits: list[Path]) -> list[list[Path]]:
