@@ -1,5 +1,6 @@
 #!/usr/bin/env python3
-"""Refuses each growth of memory in turn, and expects that the program reports it and writes nothing.
+"""Refuses each growth of memory in turn, and expects that the program reports it and writes nothing. A run over a tree ends then, with the
+outputs and rows before it.
 
 usage: try_memory.py PROGRAM
 
@@ -74,13 +75,19 @@ RUNS = [
     (["unknown"], 1),
 ]
 
+# The files of a tree, whose outputs take memory each, and the words and the header of a run over it.
+TREE = ("a", "b", "c/d")
+TREE_WORDS = ["dcmconv", "+r", "in", "out"]
+HEADER = b'"File","Output","Status"\n'
+REFUSED = (5, b"dcmtools: out of memory\n")
 
-def run(program, shim, words, refused):
-    """How a run ends, and whether a call was refused."""
+
+def run(program, shim, words, refused, folder=None):
+    """How a run in a folder ends, and whether a call was refused."""
     mark = shim.with_name("mark")
     mark.unlink(missing_ok=True)
     environment = dict(os.environ, LD_PRELOAD=str(shim), REFUSED_CALL=str(refused), REFUSED_MARK=str(mark))
-    done = subprocess.run([program, *words], input=FILE, capture_output=True, env=environment, timeout=20)
+    done = subprocess.run([program, *words], input=FILE, capture_output=True, env=environment, timeout=20, cwd=folder)
     return (done.returncode, done.stdout, done.stderr), mark.exists()
 
 
@@ -95,9 +102,41 @@ def try_words(program, shim, words, status):
         if not is_refused:
             return refused - 1, silent, wrong
         silent += left == whole
-        if left not in (whole, (5, b"", b"dcmtools: out of memory\n")):
+        if left not in (whole, (REFUSED[0], b"", REFUSED[1])):
             wrong.append(f"{words}, call {refused}: status {left[0]}, {left[1][:40]!r}, {left[2]!r}")
     return MOST_CALLS, silent, wrong + [f"{words}: takes more than {MOST_CALLS} calls"]
+
+
+def run_tree(program, shim, refused):
+    """How a run over the tree ends, whether a call was refused, and the rows of the outputs that are there, each whole, and nothing else."""
+    with tempfile.TemporaryDirectory() as room:
+        for name in TREE:
+            path = Path(room, "in", name)
+            path.parent.mkdir(parents=True, exist_ok=True)
+            path.write_bytes(FILE)
+        left, is_refused = run(program, shim, TREE_WORDS, refused, room)
+        out = Path(room, "out")
+        files = {str(path.relative_to(out)): path.read_bytes() for path in out.rglob("*") if path.is_file()}
+        rows = {f'"{name}","{name}","written"\n'.encode() for name, text in files.items() if text == FILE}
+        return left, is_refused, rows if len(rows) == len(files) else None
+
+
+def try_tree(program, shim):
+    """The same of runs over a tree."""
+    whole, _, rows = run_tree(program, shim, 0)
+    if whole[0] != 0 or rows is None or len(rows) != len(TREE):
+        return 0, 0, [f"a tree: status {whole[0]} without a refusal"]
+    silent, wrong = 0, []
+    for refused in range(1, MOST_CALLS):
+        left, is_refused, rows = run_tree(program, shim, refused)
+        if not is_refused:
+            return refused - 1, silent, wrong
+        silent += left == whole
+        told = left[1].splitlines(keepends=True)
+        is_said = left == whole or (left[0], left[2]) == REFUSED
+        if not is_said or rows is None or set(told) - {HEADER} != rows or len(told) > len(rows) + 1:
+            wrong.append(f"a tree, call {refused}: status {left[0]}, {left[1][:80]!r}, {left[2]!r}, outputs of {rows}")
+    return MOST_CALLS, silent, wrong + [f"a tree: takes more than {MOST_CALLS} calls"]
 
 
 def main():
@@ -108,8 +147,8 @@ def main():
         source.write_text(ALLOCATOR)
         subprocess.run(["cc", "-shared", "-fPIC", "-O1", "-o", shim, source], check=True)
         refusals, silent, wrong = 0, 0, []
-        for words, status in RUNS:
-            refused, passed, problems = try_words(sys.argv[1], shim, words, status)
+        program = Path(sys.argv[1]).resolve()
+        for refused, passed, problems in [try_tree(program, shim)] + [try_words(program, shim, *row) for row in RUNS]:
             refusals, silent, wrong = refusals + refused, silent + passed, wrong + problems
     for problem in wrong:
         print(problem)
