@@ -409,11 +409,13 @@ def try_crate(bench: Bench, crate: str, edits: list[Path]) -> list[tuple[bool, s
     new = [edit for edit in edits if edit not in answers]
     if new and not bench.begin(crate):
         return [(False, f"{crate}: it is not proved as it stands")] * len(edits)
-    for group in together(crate, new):
-        answers |= try_group(bench, crate, group)
-    refused |= {keys[edit]: line for edit, (is_refused, line) in answers.items() if is_refused}
     kept.parent.mkdir(exist_ok=True)
-    kept.write_text("".join(f"{key}\t{line}\n" for key, line in refused.items()))
+    for group in together(crate, new):
+        tried = try_group(bench, crate, group)
+        answers |= tried
+        refused |= {keys[edit]: line for edit, (is_refused, line) in tried.items() if is_refused}
+        # (at once, so that a run that is cut off is gone on with)
+        kept.write_text("".join(f"{key}\t{line}\n" for key, line in refused.items()))
     return [(answers[edit][0], f"{crate}/{edit.stem}: {answers[edit][1]}") for edit in edits]
 
 
