@@ -10,7 +10,7 @@
     scripts/try_edits.py --without     lists the public functions that no edit turns, and fails where the page does not name one of them
 
 The gate's edits of a crate are in `crates/NAME/must-fail`, all others in `scripts/edits/NAME`, in the same form. It works on a copy of
-the repository, and needs `rt`. The record is scripts/edits/tried.tsv: crate, checksum of its sources, definitions and edits (but not of
+the crates, and needs `rt`. The record is scripts/edits/tried.tsv: crate, checksum of its sources, definitions and edits (but not of
 comments, nor of how lines are broken), day, edits.
 
 A refusal counts only where a goal is left open: of the function that the edit changes, or of one that calls it or names what it changes,
@@ -33,7 +33,7 @@ import subprocess
 import sys
 import tempfile
 from pathlib import Path
-from typing import Callable, NamedTuple
+from typing import Callable, Iterable, NamedTuple
 
 ROOT = Path(__file__).resolve().parent.parent
 OTHERS = ROOT / "scripts/edits"
@@ -287,14 +287,16 @@ def lost_goals(goals: list[tuple[str, str, str, str]], function: str) -> list[st
 # ---- the trying
 
 class Bench:
-    """A copy of the repository, with what its checks kept, in which edits of a crate are checked, each time over what a check of the
-    crate as it stands has kept."""
+    """A copy of crates, and of those that they use, with what checks of them kept, in which edits of a crate are checked, each time over
+    what a check of the crate as it stands has kept."""
 
-    def __init__(self, room: str):
+    def __init__(self, room: str, crates: Iterable[str]):
         self.top, self.kept = Path(room) / "repository", Path(room) / "kept"
-        copy_kept(ROOT / "crates", self.top / "crates", shutil.ignore_patterns("must-fail", "refused.tsv"))
-        for name in ("crates.txt", "HANDLES"):
-            shutil.copy(ROOT / name, self.top / name)
+        lines = lines_of(crates)
+        for crate in lines:
+            copy_kept(ROOT / "crates" / crate, self.top / "crates" / crate, shutil.ignore_patterns("must-fail", "refused.tsv"))
+        (self.top / "crates.txt").write_text("".join(f"{line}\n" for line in lines.values()))
+        shutil.copy(ROOT / "HANDLES", self.top / "HANDLES")
 
     def rt_check(self, crate: str) -> str:
         how = {"stdout": subprocess.PIPE, "stderr": subprocess.STDOUT, "text": True}
@@ -328,6 +330,19 @@ class Bench:
         for file in texts:
             shutil.copy(ROOT / "crates" / crate / file, folder / file)
         return said
+
+
+def lines_of(crates: Iterable[str]) -> dict[str, str]:
+    """The lines of crates.txt of these crates, and of those of the repository that they use."""
+    lines = {line.split(":")[0].split()[0]: line for line in (ROOT / "crates.txt").read_text().splitlines() if ":" in line}
+    found: dict[str, str] = {}
+    left = list(crates)
+    while left:
+        crate = left.pop()
+        if crate in lines and crate not in found:
+            found[crate] = lines[crate]
+            left += lines[crate].split(":")[1].split()
+    return found
 
 
 def copy_kept(work: Path, to: Path, left_out: Callable | None = None) -> None:
@@ -520,7 +535,7 @@ def main(words: list[str]) -> int:
     wanted = wanted_edits(words, others_alone)
     failed = 0
     with tempfile.TemporaryDirectory() as room:
-        bench = Bench(room)
+        bench = Bench(room, wanted)
         for crate, edits in wanted.items():
             judged = try_crate(bench, crate, edits)
             for good, line in judged:
