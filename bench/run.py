@@ -21,7 +21,7 @@ of some hundred bytes, beside the same tool called once a file by a loop that sp
 installed. Each round has a new OUTPUT beside the input; the best of the rounds counts. Peak memory is that of 100 and of 10,000 files.
 
 With --only-texts dumps with `+u8` are measured beside dumps without it, and nothing else: of a structured report, whose texts are ASCII, of
-names in Japanese by ISO 2022 IR 87, and of comments in UTF-8.
+names in Japanese by ISO 2022 IR 87, and of comments in UTF-8. So are tables of names and comments of 10,000 files.
 
 A table of two columns is made of many files of 20 to 500 KB, 2.6 GB of them by default, in /dev/shm where there is one, and of
 fewer where it has no room. Beside it is `dcmdump -q -M +F +P` of DCMTK, also with `+st`, which ends each file after the last column.
@@ -92,6 +92,13 @@ SHARED_MEMORY = "/dev/shm"
 TEXTS = 50_000
 KANJI_NAME = "Yamada^Tarou=山田^太郎=やまだ^たろう".encode("iso2022_jp")
 COMMENT = "Größe der Läsion: 5 µm, am 3. März; Übergang über die Brücke geprüft".encode()
+TEXT_COLUMNS = "PatientName", "PatientComments"
+# the sets that each file of a table names, a name and a comment
+TABLE_TEXTS = {
+    "ASCII": (b"", b"Yamada^Tarou", b"the lesion has a size of 5 mm, seen on 3 March; its margin was checked"),
+    "Japanese": (b"\\ISO 2022 IR 87", KANJI_NAME, KANJI_NAME),
+    "UTF-8": (b"ISO_IR 192", "Müller^Jörg".encode(), COMMENT),
+}
 
 TOP = Path(__file__).resolve().parent.parent
 
@@ -836,6 +843,40 @@ def print_texts(binary, rounds):
         works = [Work("dcmdump", name, options, path) for name, path in inputs.items() for options in ([], ["+L"])]
         print_best(f"Texts by characters, in milliseconds, the best of {rounds} rounds", works, run, rounds)
         print_memory(works, run)
+        print_tables_of_texts(binary, folder, rounds)
+
+
+def make_named_files(folder, sets, name, comment):
+    """Many small files with a name and a comment, and a list of them."""
+    os.mkdir(folder)
+    elements = [(0x0008, 0x0005, "CS", sets), (0x0010, 0x0010, "PN", name), (0x0010, 0x4000, "LT", comment)]
+    whole = meta(LITTLE) + b"".join(leaf(LITTLE, *element) for element in elements)
+    paths = [os.path.join(folder, f"f{number:05}.dcm") for number in range(SMALL_FILES)]
+    for path in paths:
+        Path(path).write_bytes(whole)
+    names = os.path.join(folder, "names")
+    Path(names).write_text("".join(f"{path}\n" for path in paths))
+    return names
+
+
+def print_tables_of_texts(binary, folder, rounds):
+    """Tables of texts with and without `+u8`, in turns."""
+    lists = {kind: make_named_files(os.path.join(folder, kind), *texts) for kind, texts in TABLE_TEXTS.items()}
+    columns = [word for column in TEXT_COLUMNS for word in ("-k", column)]
+    forms = {"without": [], "+u8": ["+u8"]}
+    run = {(kind, form): [binary, "dcm2csv", *forms[form], *columns, f"@{lists[kind]}"] for kind in lists for form in forms}
+    best = dict.fromkeys(run, float("inf"))
+    for _ in range(rounds):
+        for name, words in run.items():
+            best[name] = min(best[name], seconds_of(words, os.devnull))
+    rows = []
+    for kind in lists:
+        without, decoded = best[kind, "without"], best[kind, "+u8"]
+        peaks = [peak_of(run[kind, form], os.devnull) for form in forms]
+        told = ["-" if peak is None else f"{peak:,}" for peak in peaks]
+        rows.append([kind, f"{without * 1e3:.1f}", f"{decoded * 1e3:.1f}", f"{decoded / without:.2f}", *told])
+    title = f"Tables of {len(TEXT_COLUMNS)} texts of {SMALL_FILES:,} files by dcm2csv, in milliseconds, the best of {rounds} rounds"
+    print_table(title, ["Texts", "without", "+u8", "+u8 / without", "KiB", "KiB with +u8"], rows)
 
 
 def print_memory(works, run):
@@ -868,7 +909,7 @@ def main():
     options.add_argument("--table-files", type=int, default=TABLE_FILES, help="files of a table")
     options.add_argument("--only-tables", action="store_true", help="tables of files, and nothing else")
     options.add_argument("--only-trees", action="store_true", help="trees of files, and nothing else")
-    options.add_argument("--only-texts", action="store_true", help="dumps by characters, and nothing else")
+    options.add_argument("--only-texts", action="store_true", help="dumps and tables by characters, and nothing else")
     options.add_argument("--tree-files", type=int, default=TREE_FILES, help="slices of a tree")
     options.add_argument("--small-files", type=int, default=SMALL_FILES, help="small files of a tree")
     chosen = options.parse_args()
