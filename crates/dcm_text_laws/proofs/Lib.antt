@@ -5,3 +5,6 @@ pub mod Fronts
 pub mod Read
 pub mod Headers
 pub mod Runs
+pub mod Names
+pub mod Tables
+pub mod Dumps

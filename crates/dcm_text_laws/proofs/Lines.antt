@@ -44,7 +44,7 @@ spaces_low (suc n) = spaces_low n
 spaces_utf8 : (n : ℕ) → IsUtf8 (replicate n 32)
 spaces_utf8 n = low_utf8 (replicate n 32) (spaces_low n)
 
-decimal_utf8 : (n : ℕ) → IsUtf8 (decimal n)
+pub decimal_utf8 : (n : ℕ) → IsUtf8 (decimal n)
 decimal_utf8 n = IsUtf8-from_ascii (decimal n) (decimal_ascii n)
 
 length_utf8 : (size : Length) → IsUtf8 (length_text size)

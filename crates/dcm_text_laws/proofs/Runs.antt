@@ -14,7 +14,7 @@ use Rattle.dcm_base.proofs.DumpsBack.Parts.{Bytes-drop}
 use Rattle.dcm_base.proofs.DumpsBack.Texts.{Bytes, bytes_of}
 use Rattle.dcm_sinks.specs.InForce.{EMPTY}
 use Rattle.dcm_words.specs.Words.{Job, dump_decoded}
-use Rattle.dcm_cli.specs.Answer.{Answer, Answers, AloneReads, AloneSure, FileReads, FileSure, Source, alone, alone_output, answer, before_set, file, file_output, going_on, not_changed, not_opened, opened, output_of, set_at, unopened, within_set}
+use Rattle.dcm_cli.specs.Answer.{Answer, AloneReads, AloneSure, FileReads, FileSure, InputReads, Source, alone, alone_output, answer, before_set, file, file_output, going_on, not_changed, not_opened, opened, output_of, set_at, unopened, within_set}
 use Rattle.dcm_text_laws.specs.Laws.{AnswerIsUtf8, SureIsUtf8}
 use Rattle.dcm_text_laws.proofs.Lines.{both}
 use Rattle.dcm_text_laws.proofs.Fronts.{FrontOfBytes, front_utf8}
@@ -61,12 +61,13 @@ of_source job (unopened fault offset) h = h
 of_source job (file m coding f stop) h = h
 of_source job (alone syntax f stop) h = h
 
-answered : (d : Dictionary) (mode : Mode) (bare : Option Syntax) (bytes : List ℕ) (a : Answer) → Bytes bytes → Answers (dump_decoded d mode bare) bytes a → IsUtf8 a.output
-answered d mode None bytes a h y = subst IsUtf8 (sym (ap (λ (x : Answer). x.output) y.answer_is)) (of_source (dump_decoded d mode None) y.source (by_file d mode bytes y.source h y.reads))
-answered d mode (Some syntax) bytes a h y = subst IsUtf8 (sym (ap (λ (x : Answer). x.output) y.answer_is)) (of_source (dump_decoded d mode (Some syntax)) y.source (by_alone d mode (read_by d syntax) syntax bytes y.source h y.reads))
+pub source_utf8 : (d : Dictionary) (mode : Mode) (bare : Option Syntax) (bytes : List ℕ) (source : Source) → Bytes bytes → InputReads (dump_decoded d mode bare) bytes source → IsUtf8 (output_of (dump_decoded d mode bare) source)
+source_utf8 d mode None bytes source h r = by_file d mode bytes source h r
+source_utf8 d mode (Some syntax) bytes source h r = by_alone d mode (read_by d syntax) syntax bytes source h r
 
 pub answer_utf8 : AnswerIsUtf8
-answer_utf8 d mode bare bytes a are y = answered d mode bare bytes a (bytes_of bytes are) y
+answer_utf8 d mode bare bytes a are y =
+    subst IsUtf8 (sym (ap (λ (x : Answer). x.output) y.answer_is)) (of_source (dump_decoded d mode bare) y.source (source_utf8 d mode bare bytes y.source (bytes_of bytes are) y.reads))
 
 pub sure_utf8 : SureIsUtf8
 sure_utf8 d mode None p out are y = sure_file d mode p out (bytes_of p are) y

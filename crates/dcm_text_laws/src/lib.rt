@@ -1,4 +1,4 @@
-//! What is promised of the characters of a dump: whatever the input is, they are valid UTF-8.
+//! What is promised of the characters of a dump and of a table: whatever the files are, they are valid UTF-8.
 #![tactic(auto)]
 
 pub mod laws;
