@@ -25,13 +25,16 @@ whose function has no goal there is tried by itself, and then a goal of a caller
 What was refused is kept in the crate's folder out, and is not tried again while the crate and the edit stay as they are.
 """
 import datetime
+import functools
 import hashlib
+import importlib.machinery
 import os
 import re
 import shutil
 import subprocess
 import sys
 import tempfile
+import types
 from pathlib import Path
 from typing import Callable, Iterable, NamedTuple
 
@@ -300,7 +303,7 @@ class Bench:
 
     def rt_check(self, crate: str) -> str:
         how = {"stdout": subprocess.PIPE, "stderr": subprocess.STDOUT, "text": True}
-        run = subprocess.run(["rt", "check", "--jobs", "1"], cwd=self.top / "crates" / crate, **how)
+        run = subprocess.run([sys.executable, __file__, "--rt", "check", "--jobs", "1"], cwd=self.top / "crates" / crate, **how)
         return run.stdout
 
     def begin(self, crate: str) -> bool:
@@ -330,6 +333,17 @@ class Bench:
         for file in texts:
             shutil.copy(ROOT / "crates" / crate / file, folder / file)
         return said
+
+
+def rt(words: list[str]) -> int:
+    """Runs `rt` in the current folder, but so that it reads the sources of each library once. By itself it reads them once for each way that
+    leads to the library in crates.txt, which takes minutes of each check of an upper crate."""
+    path = os.path.realpath(shutil.which("rt") or "rt")
+    kit = types.ModuleType("kit_rt")
+    kit.__file__ = path
+    importlib.machinery.SourceFileLoader("kit_rt", path).exec_module(kit)
+    kit.rtlib.Crate.stamp = functools.cache(kit.rtlib.Crate.stamp)
+    return kit.main(words)
 
 
 def lines_of(crates: Iterable[str]) -> dict[str, str]:
@@ -415,11 +429,16 @@ def key_of(crate: str, edit: Path) -> str:
     return sum_of.hexdigest()[:32]
 
 
+def kept_lines(kept: Path) -> dict[str, str]:
+    """What earlier runs refused, by the keys of the edits."""
+    return dict(line.split("\t") for line in kept.read_text().splitlines()) if kept.exists() else {}
+
+
 def try_crate(bench: Bench, crate: str, edits: list[Path]) -> list[tuple[bool, str]]:
     """Tries edits of a crate, but for those that an earlier run refused of the same text: the folder out of the crate keeps for what."""
     keys = {edit: key_of(crate, edit) for edit in edits}
     kept = ROOT / "crates" / crate / "out/refused.tsv"
-    refused = dict(line.split("\t") for line in kept.read_text().splitlines()) if kept.exists() else {}
+    refused = kept_lines(kept)
     answers = {edit: (True, refused[keys[edit]]) for edit in edits if keys[edit] in refused}
     new = [edit for edit in edits if edit not in answers]
     if new and not bench.begin(crate):
@@ -428,8 +447,8 @@ def try_crate(bench: Bench, crate: str, edits: list[Path]) -> list[tuple[bool, s
     for group in together(crate, new):
         tried = try_group(bench, crate, group)
         answers |= tried
-        refused |= {keys[edit]: line for edit, (is_refused, line) in tried.items() if is_refused}
-        # (at once, so that a run that is cut off is gone on with)
+        refused = kept_lines(kept) | {keys[edit]: line for edit, (is_refused, line) in tried.items() if is_refused}
+        # (at once, so that a run that is cut off is gone on with; what another run kept meanwhile stays)
         kept.write_text("".join(f"{key}\t{line}\n" for key, line in refused.items()))
     return [(answers[edit][0], f"{crate}/{edit.stem}: {answers[edit][1]}") for edit in edits]
 
@@ -530,6 +549,8 @@ def main(words: list[str]) -> int:
     for word, call in (("--check", check), ("--table", table), ("--applies", applies), ("--without", without)):
         if words == [word]:
             return call()
+    if words[:1] == ["--rt"]:
+        return rt(words[1:])
     others_alone = words[:1] == ["--others"]
     words = words[1:] if others_alone else words
     wanted = wanted_edits(words, others_alone)
