@@ -72,7 +72,8 @@ impl InForce {
     }
 
     /// After the head of an element.
-    #[inline(always)]
+    // (a call, as is `close`: inlined these rare ones would make what opens an element a call in the machine's loop)
+    #[inline(never)]
     fn open(&mut self, head: Head, syntax: Syntax)
         ensures { self.new ≡ spec.force_step self.old (opening head syntax) }
     {
@@ -90,7 +91,7 @@ impl InForce {
     }
 
     /// After the end of a value: one that sets what is in force does so from here on.
-    #[inline(always)]
+    #[inline(never)]
     fn close(&mut self)
         ensures { self.new ≡ spec.force_step self.old closes_leaf }
     {
