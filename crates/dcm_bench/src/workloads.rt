@@ -26,7 +26,7 @@ pub enum Workload {
     Identities,
     /// Tables of many files, with few columns and with many.
     Tables,
-    /// A round of each.
+    /// A round of each but `Lines`.
     All,
 }
 

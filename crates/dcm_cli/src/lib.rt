@@ -8,7 +8,8 @@
 //! - `tell`, `tell_open`, `tell_unopened` and `tell_no_key` report words that are refused, and files and keys that
 //!   cannot be opened; `status` has the exit statuses.
 //! - `take_key` of `key` reads a key, and `first_reading` of `first` a file as far as its patient.
-//! - `obey` does what words say, over any system that opens devices (`System`), but for tables, which are above it.
+//! - `obey` does what words say, over any system that opens devices (`System`), but for tables,
+//!   dumps of several files and runs over trees, which are above it.
 //!
 //! A run over memory:
 //!

@@ -57,6 +57,7 @@ pub enum Question {
     IsEverywhere,
 }
 
+/// Whether two tags are one.
 #[inline(always)]
 fn is_same(tag: Tag, other: Tag) -> bool
     ensures { result ≡ same_tag tag other }

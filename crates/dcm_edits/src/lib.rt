@@ -1,8 +1,7 @@
 //! What an edit of a data set is, and the words that mean edits.
 //!
 //! - `Edits::parse_in` reads words as `-m PatientName=A` into at most 64 edits, by a dictionary of their tags, or
-//!   refuses them with an `EditFault`. It is the only call of the tools that takes memory, from the allocator that it
-//!   is given. `dictionary_said` is the dictionary that the words name by `+dict` and `-dict`, and `Edits::parse` takes
+//!   refuses them with an `EditFault`. It takes memory, from the allocator that it is given. `dictionary_said` is the dictionary that the words name by `+dict` and `-dict`, and `Edits::parse` takes
 //!   the extract.
 //! - `takes_next` says of a word whether the next one is that edit's own, and `cut_at` cuts a text at a byte.
 //! - An `Edit` is a path with an `Action` at its end, or is of all data sets at every depth. A `Step` of a path leads

@@ -7,8 +7,8 @@ use crate::opened::Opened;
 use arrayvec::ArrayVec;
 use std::io;
 
-/// The most bytes that are kept of a name in a folder. Linux has none longer than 255 (NAME_MAX), and some of its file
-/// systems a few times as much.
+/// The most bytes that are kept of a name in a folder. Linux has none longer than 255 (NAME_MAX) but on some file
+/// systems, where a name may have a few times as many.
 pub const MOST_OF_ENTRY: usize = 4096;
 
 /// A name in a folder, or its first bytes.

@@ -1,4 +1,4 @@
-// Heads as bytes (PS3.5 7.1.2, 7.1.3, 7.5).
+// Heads from bytes (PS3.5 7.1.2, 7.1.3, 7.5).
 ghost use Rattle.std.specs.Prelude.{◌≡◌, true, ◌≤◌, length, IfSome};
 ghost use Rattle.dcm_base.specs.Bytes.Head.{tag_at, vr_at, long_length};
 ghost use Rattle.dcm_base.specs.declared.syntax.Syntax.TheVariants.{Little as little_in};
@@ -55,7 +55,7 @@ pub fn read_tag(syntax: Syntax, bytes: &[u8]) -> Tag
     }
 }
 
-/// A length of two bytes.
+/// The number that two bytes spell.
 pub fn read_short(syntax: Syntax, bytes: &[u8]) -> u16
     requires { 2 ≤ length bytes.now }
     ensures { result ≡ number syntax 2 bytes.now }

@@ -53,7 +53,8 @@ fn mark_in_sequence(inner: Level, levels: &OpenLevels, position: u64, bytes: &[u
     }
 }
 
-/// The mark that the bytes begin with in an item, where it may come.
+/// The mark that the bytes begin with in an item, where it may come. What is open, and the place, are for the contract
+/// alone.
 #[inline(always)]
 fn mark_in_item(inner: Level, levels: &OpenLevels, position: u64, bytes: &[u8]) -> Option<Mark>
     requires eight { 8 ≤ length bytes.now }

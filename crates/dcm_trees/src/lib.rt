@@ -1,4 +1,11 @@
 //! Whole trees of files in one run.
+//!
+//! - `obey_tree` does what words say of a folder or a list, over any system: `do_tree` does the `TreeRun` that they mean.
+//! - `begin` looks at the folders before anything is made, and answers `Begun`, or a `Refusal`.
+//! - `do_name` does the file of a name in its `Manner`: a part is filled by the job of one file, and gets the name of
+//!   the output, as `Naming` says, only once it is whole. `Done` has the `Fate` of the name.
+//! - `place_at` says whether an output may be made at a path, and `make_way` makes the folders on its way.
+//! - `put_row` writes a row of the manifest, `Tally` counts them, and `is_of` says which names are of a share.
 #![tactic(auto)]
 
 mod beginning;

@@ -19,7 +19,7 @@ use dcm_tree_words::TreeOptions;
 use dcm_walk::{ListEnd, PART, Stopped};
 use itoa::Buffer;
 
-/// The most bytes of that name.
+/// The most bytes of the name of a run's part.
 const MOST_OF_PART: usize = 16;
 
 /// The name of a run's part.

@@ -71,8 +71,8 @@ impl InForce {
         self.setting.close();
     }
 
-    /// After the head of an element.
-    // (a call, as is `close`: inlined these rare ones would make what opens an element a call in the machine's loop)
+    /// After the head of an element. It is a call, as is `close`: inlined these rare ones would make what opens an
+    /// element a call in the machine's loop.
     #[inline(never)]
     fn open(&mut self, head: Head, syntax: Syntax)
         ensures { self.new ≡ spec.force_step self.old (opening head syntax) }

@@ -38,10 +38,10 @@ pub struct TextLines {
 }
 
 /// The most bytes of a text that goes right to its line. A longer one is first looked at, since plain ASCII goes out
-/// faster as before.
+/// faster as without Specific Character Set.
 const SHORT: usize = 64;
 
-/// Whether an element is shown as before, whatever is in force: one that is no text, or of plain ASCII.
+/// Whether an element is shown as without Specific Character Set, whatever is in force: one that is no text, or of plain ASCII.
 #[inline(always)]
 fn is_as_before(vr: Vr, value: &[u8]) -> bool
     ensures { result ≡ spec.is_as_before vr value.now }
@@ -120,6 +120,7 @@ impl TextLines {
         self.lines.take(out, Token::Open(head, syntax))
     }
 
+    /// Shows more bytes of what is open. The sets are for the contract alone.
     fn show<W: DeviceOut>(
         &mut self,
         out: &mut Watched<W>,
@@ -140,6 +141,7 @@ impl TextLines {
         Ok(())
     }
 
+    /// Ends the line of what is open. The sets are for the contract alone.
     fn close<W: DeviceOut>(&mut self, out: &mut Watched<W>, sets: &Sets) -> Result<(), WriteFailed>
         ensures state { OnOk result (state self.new ≡ spec.text_step sets.now (state self.old) closes_leaf) }
         ensures wrote { Wrote W.DeviceOut out.old out.new (spec.text_writes sets.now (state self.old) closes_leaf)
@@ -268,7 +270,8 @@ impl TextLines {
         }
     }
 
-    /// Writes the line of a text that is whole in full mode: its start, its display, of any length, and the rest.
+    /// Writes the line of a text that is whole in full mode: its start, its display, of any length, and the rest. The
+    /// syntax is for the contract alone.
     fn put_in_full<W: DeviceOut>(
         &mut self,
         out: &mut Watched<W>,
@@ -302,7 +305,8 @@ impl TextLines {
         )
     }
 
-    /// Writes what a text makes that is whole, of any length. Plain ASCII is shown as before.
+    /// Writes what a text makes that is whole, of any length. Plain ASCII is shown as without
+    /// Specific Character Set.
     #[inline(never)]
     fn take_long_text<W: DeviceOut>(
         &mut self,
