@@ -187,7 +187,7 @@ FACTS = [
     (r"1 to (\d+), in the order of the row|not 1 to (\d+) columns", "crates/dcm_table_words/src/plan.rt", "MOST_COLUMNS", 0),
     (r"value of more than (16,?384) bytes", "crates/dcm_table/src/cell.rt", "CELL_LIMIT", 0),
     (r"has a byte 00 or more than ([\d,]+) bytes|NAME is the name's first ([\d,]+) bytes", "crates/dcm_names/src/list.rt", "MOST_OF_NAME", 0),
-    (r"writes ([\d,]+) bytes at a time", "crates/dcm_cli/src/convert.rt", "PIECE", 0),
+    (r"writes ([\d,]+) bytes at a time", "crates/dcm_cli/src/rewrite.rt", "PIECE", 0),
     (r"a dump reads ([\d,]+)\.", "crates/dcm_cli/src/dump.rt", "PIECE", 0),
 ]
 

@@ -76,17 +76,24 @@ def edits_of(crate: str, others_alone: bool = False) -> list[Path]:
     return [edit for folder in folders if folder.is_dir() for edit in sorted(folder.glob("*.edit"))]
 
 
+def crates_in_order() -> list[str]:
+    """Those of crates.txt, the lowest first."""
+    return [line.split(":")[0].split()[0] for line in (ROOT / "crates.txt").read_text().splitlines() if ":" in line]
+
+
 def crates_with_edits() -> list[str]:
-    """In the order of crates.txt, the lowest first."""
-    names = [line.split(":")[0].split()[0] for line in (ROOT / "crates.txt").read_text().splitlines() if ":" in line]
-    return [name for name in names if edits_of(name)]
+    return [name for name in crates_in_order() if edits_of(name)]
 
 
 def checksum(crate: str) -> str:
-    """Of what an edit of the crate may change or meet. Comments of the sources, and how their lines are broken, are left out."""
+    """Of what an edit of the crate may change or meet."""
+    return checksum_of(crate, ("src", "specs", "must-fail"), (OTHERS / crate,))
+
+
+def checksum_of(crate: str, names: Iterable[str], others: Iterable[Path]) -> str:
+    """Of the files in folders of a crate, and in others. Comments of the sources, and how their lines are broken, are left out."""
     sum_of = hashlib.sha256()
-    folders = [ROOT / "crates" / crate / name for name in ("src", "specs", "must-fail")] + [OTHERS / crate]
-    for folder in folders:
+    for folder in [*(ROOT / "crates" / crate / name for name in names), *others]:
         for path in sorted(folder.rglob("*")):
             if path.is_file():
                 text = words_of(path.read_text()).encode() if path.suffix == ".rt" else path.read_bytes()

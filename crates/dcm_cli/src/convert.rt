@@ -6,13 +6,10 @@ ghost use Rattle.dcm_cli.specs.Calls as calls;
 
 use crate::ending::Ending;
 use crate::pass::read_set;
-use crate::rewrite::{NewHead, open_file, target_syntax};
+use crate::rewrite::{NewHead, PIECE, open_file, target_syntax};
 use dcm_base::{DeviceIn, DeviceOut, Dictionary, Syntax, Watched};
 use dcm_sinks::EncodeSink;
 use dcm_words::Convert;
-
-/// The bytes that are read at a time. Most of them are written again, each piece by one call.
-const PIECE: usize = 262_144;
 
 /// Reads a file into a buffer, piece by piece, and writes it in another transfer syntax, or in its own.
 fn convert_file<R: DeviceIn, W: DeviceOut>(

@@ -10,15 +10,12 @@ ghost use Rattle.dcm_cli.specs.Pass as spec;
 
 use crate::ending::{Ending, Verdict};
 use crate::pass::read_set;
-use crate::rewrite::{NewHead, Opened, open_file};
+use crate::rewrite::{NewHead, Opened, PIECE, open_file};
 use dcm_base::{DeviceIn, DeviceOut, Dictionary, Watched};
 use dcm_deid::{DeidentifySink, MetaWithoutIdentity};
 use dcm_sinks::EncodeSink;
 use dcm_stream::Sink;
 use dcm_words::Deidentify;
-
-/// The bytes that are read at a time. Most of them are written again, each piece by one call.
-const PIECE: usize = 262_144;
 
 /// How the work ends where a value that was written says that pixels show identity, or none does.
 fn with_pixels(ending: Ending, reports: bool, may_show: bool) -> Ending

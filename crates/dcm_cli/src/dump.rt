@@ -16,8 +16,8 @@ use dcm_sinks::{DumpSink, dump_header_with, set_header};
 use dcm_stream::Machine;
 use dcm_words::{Dump, Texts};
 
-/// The bytes that are read at a time.
-const PIECE: usize = 65_536;
+/// The bytes of a file that are read at a time where it is shown.
+pub const PIECE: usize = 65_536;
 
 /// Writes the dump of a file, its head by a reader that may have read other files.
 fn dump_file<R: DeviceIn, W: DeviceOut>(

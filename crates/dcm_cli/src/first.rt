@@ -42,8 +42,8 @@ fn told(answer: Result<(), Halt>) -> Option<Stop>
     }
 }
 
-/// Feeds a machine, and answers why it goes no further, if it does.
-fn feed<S: Sink>(piece: &[u8], machine: &mut Machine, sink: &mut S) -> Option<Stop>
+/// Feeds a machine whose sink never fails, and answers why it goes no further, if it does.
+pub fn feed_telling<S: Sink>(piece: &[u8], machine: &mut Machine, sink: &mut S) -> Option<Stop>
     requires { machine.old.failed ≡ false }
     ensures { searching.Goes S.Sink sink.old sink.new machine.old machine.new piece.now result }
 {
@@ -172,8 +172,8 @@ impl Search {
         ensures searched { (s : AnySyntax) (start : ℕ) (bytes : List ℕ) → searching.Searched s start bytes self.old
             → searching.Searched s start (bytes ++ piece.now) self.new }
     {
-        self.stop = feed(piece, &mut self.place, &mut self.up_to);
-        self.whole = feed(piece, &mut self.value, &mut self.patient);
+        self.stop = feed_telling(piece, &mut self.place, &mut self.up_to);
+        self.whole = feed_telling(piece, &mut self.value, &mut self.patient);
     }
 
     /// After what the head of a file left of its data set.

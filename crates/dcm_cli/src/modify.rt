@@ -10,15 +10,12 @@ ghost use Rattle.dcm_cli.specs.Pass as spec;
 
 use crate::ending::{Ending, Verdict};
 use crate::pass::read_set;
-use crate::rewrite::{NewHead, Opened, open_file};
+use crate::rewrite::{NewHead, Opened, PIECE, open_file};
 use dcm_base::{DeviceIn, DeviceOut, Dictionary, Watched};
 use dcm_editor::{EditSink, Edits};
 use dcm_sinks::EncodeSink;
 use dcm_stream::Sink;
 use dcm_words::Modify;
-
-/// The bytes that are read at a time. Most of them are written again, each piece by one call.
-const PIECE: usize = 262_144;
 
 /// How the work ends where these edits found no place.
 fn with_unplaced(ending: Ending, unplaced: u64) -> Ending

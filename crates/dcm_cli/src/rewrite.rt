@@ -20,6 +20,9 @@ use dcm_base::{
 use dcm_deid::{MetaWithoutIdentity, NO_PREAMBLE};
 use dcm_head::{Meta, PREFIX, SyntaxUid};
 
+/// The bytes that are read at a time of a file that is written again. Most of them are, each piece by one call.
+pub(crate) const PIECE: usize = 262_144;
+
 /// A file whose data set is to be written again: the coding and the offset of the data set, and what was read of it.
 #[derive(Clone, Copy, Debug, PartialEq, Eq)]
 pub struct Opened {

@@ -30,6 +30,7 @@ mod sink;
 mod table;
 mod whole;
 
+pub use deidentifier::form_after;
 pub use fate::{Depth, Fate, NewValue, Options, ReadAs, Retain, Temporal, fate_of};
 pub use meta::{MetaFate, MetaWithoutIdentity, NO_PREAMBLE, meta_fate};
 pub use patient::{Naming, PatientSink, UpToPatient};

@@ -13,7 +13,7 @@ ghost use Rattle.dcm_dumps.specs.Work as work_spec;
 use crate::heading::put_heading;
 use crate::plan::{DumpsPlan, total_of};
 use dcm_base::{DeviceIn, DeviceOut, Watched, WriteFailed, flush_out};
-use dcm_cli::dump::dump_with;
+use dcm_cli::dump::{PIECE, dump_with};
 use dcm_cli::ending::{Ending, Verdict};
 use dcm_cli::status::{DEVICE, DONE, FAULT};
 use dcm_each::{Ends, FileWork, do_all};
@@ -21,9 +21,6 @@ use dcm_files::{FileKind, System, clash};
 use dcm_head::Meta;
 use dcm_names::{put_clash, put_fault, put_unread};
 use dcm_words::Dump;
-
-/// The bytes that are read at a time.
-const PIECE: usize = 65_536;
 
 /// What shows files, one after another.
 #[derive(Drop)]

@@ -7,13 +7,10 @@ ghost use Rattle.dcm_dumps.specs.Words as spec;
 
 use dcm_base::WordFault;
 use dcm_table_words::{Name, NameWords, has_empty, has_standard_twice};
-use dcm_words::{Dump, Usage, asked, dump_of_each};
+use dcm_words::{Dump, SEVERAL, Usage, asked, dump_of_each};
 
 /// The tool that shows files.
 const DCMDUMP: &[u8] = b"dcmdump";
-
-/// The option by which one file, too, has a heading.
-const SEVERAL: &[u8] = b"+F";
 
 /// Dumps of several files: how each is shown, and their names.
 #[derive(Clone, Copy)]

@@ -3,7 +3,6 @@ ghost use Rattle.std.specs.Prelude.{◌≡◌, ◌≤◌, ◌<◌, ◌+◌, ◌+
 ghost use Rattle.dcm_base.specs.declared.syntax.Syntax.{Syntax as AnySyntax};
 ghost use Rattle.dcm_base.specs.Reading.Reads.{INPUT_LIMIT};
 ghost use Rattle.dcm_cli.specs.Pass.{IsWithin, set_bytes};
-ghost use Rattle.dcm_cli.specs.Searching.{Goes, refusal};
 ghost use Rattle.dcm_files.specs.Pieces.{BUFFER_LIMIT};
 ghost use Rattle.dcm_instance.specs.ReadInstance as spec;
 ghost use Rattle.dcm_instance.specs.Searching as searching;
@@ -12,34 +11,16 @@ ghost use Rattle.dcm_instance.specs.Uids.{told};
 
 use crate::names::{Instance, InstanceUid, NoInstance};
 use crate::sink::UidSink;
-use dcm_base::{Coding, DeviceIn, Dictionary, Stop, Stopped, Watched};
+use dcm_base::{Coding, DeviceIn, Dictionary, Stop, Watched};
 use dcm_cli::ending::HeadEnding;
+use dcm_cli::first::feed_telling;
 use dcm_cli::head::{Beginning, read_head_of, set_start};
 use dcm_files::next_piece;
 use dcm_head::Meta;
-use dcm_stream::{Halt, Machine, Sink};
+use dcm_stream::Machine;
 
 /// The bytes that are read at a time. The three stand near the front.
 const PIECE: usize = 4096;
-
-/// Why a machine goes no further whose sink never fails.
-fn halt_of(answer: Result<(), Halt>) -> Option<Stop>
-    ensures { result ≡ refusal answer }
-{
-    match answer {
-        Ok(()) => None,
-        Err(Stopped::Refused(stop)) => Some(stop),
-        Err(Stopped::Output) => None,
-    }
-}
-
-/// Feeds a machine, and answers why it goes no further, if it does.
-fn feed<S: Sink>(piece: &[u8], machine: &mut Machine, sink: &mut S) -> Option<Stop>
-    requires { machine.old.failed ≡ false }
-    ensures { Goes S.Sink sink.old sink.new machine.old machine.new piece.now result }
-{
-    halt_of(machine.feed(piece, sink))
-}
 
 /// The search of a data set for its unique identifiers, and why it goes no further, if it does.
 #[derive(Drop)]
@@ -69,7 +50,7 @@ impl Search {
         ensures searched { (s : AnySyntax) (start : ℕ) (bytes : List ℕ) → searching.Searched s start bytes self.old
             → searching.Searched s start (bytes ++ piece.now) self.new }
     {
-        self.stop = feed(piece, &mut self.machine, &mut self.sink);
+        self.stop = feed_telling(piece, &mut self.machine, &mut self.sink);
     }
 
     /// After what the head of a file left of its data set.

@@ -1,13 +1,13 @@
 // The sink that looks for the unique identifiers of an instance.
 ghost use Rattle.std.specs.Prelude.{◌≡◌, None, false, fold};
-ghost use Rattle.dcm_base.specs.Bytes.Spelling.{form, read_as};
 ghost use Rattle.dcm_stream.specs.Tokens.{atoms_of};
 ghost use Rattle.dcm_instance.specs.UidSink as spec;
 ghost use Rattle.dcm_instance.specs.Uids as uids;
 
 use crate::names::{Instance, InstanceUid, NoInstance};
 use crate::value::UidValue;
-use dcm_base::{Form, Syntax, Tag, WriteFailed, form_of, read_as};
+use dcm_base::{Form, Syntax, Tag, WriteFailed};
+use dcm_deid::form_after;
 use dcm_head::Head;
 use dcm_stream::{Bar, Sink, Skip, Token};
 use std::marker::Model;
@@ -158,13 +158,6 @@ impl UidSink {
             self.step(token);
         }
     }
-}
-
-/// What follows the head of an element.
-fn form_after(head: Head, syntax: Syntax) -> Form
-    ensures { result ≡ form syntax (read_as syntax head.tag head.vr) head.length }
-{
-    form_of(syntax, read_as(syntax, head.tag, head.vr), head.length)
 }
 
 impl Sink for UidSink {

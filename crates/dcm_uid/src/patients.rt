@@ -5,7 +5,7 @@ ghost use Rattle.std.specs.Int.{w64, from_be_bytes};
 ghost use Rattle.dcm_uid.specs.Hmac.{IsKey, hmac_sha256};
 ghost use Rattle.dcm_uid.specs.Pseudonym as spec;
 
-use crate::hmac::Key;
+use crate::hmac::{CODE_SIZE, Key};
 use arrayvec::ArrayVec;
 use dcm_head::without_pads;
 
@@ -60,14 +60,14 @@ fn hex_digit(number: u8) -> u8
 }
 
 /// The code of a patient under a key, for what is named.
-fn code(key: &Key, name: &[u8], patient: &[u8]) -> [u8; 32]
+fn code(key: &Key, name: &[u8], patient: &[u8]) -> [u8; CODE_SIZE]
     ensures { (k : List ℕ) → IsKey key.now k → result ≡ hmac_sha256 k (spec.message name.now patient.now) }
 {
     key.hmac_of_three(name, b"\\", patient)
 }
 
 /// Appends P and the first bytes of a code in hexadecimal digits.
-fn show_code(code: &[u8; 32], out: &mut ArrayVec<u8, PSEUDONYM_SIZE>)
+fn show_code(code: &[u8; CODE_SIZE], out: &mut ArrayVec<u8, PSEUDONYM_SIZE>)
     requires { out.old.items ≡ [] }
     ensures { out.new.items ≡ 80 ∷ flat_map spec.hex_byte (take 10 code.now) }
 {
@@ -93,7 +93,7 @@ pub fn pseudonym(key: &Key, value: &[u8]) -> ArrayVec<u8, PSEUDONYM_SIZE>
 }
 
 /// The number in the first eight bytes of a code, the highest first.
-fn number_of(code: &[u8; 32]) -> u64
+fn number_of(code: &[u8; CODE_SIZE]) -> u64
     ensures { result ≡ from_be_bytes w64 (take 8 code.now) }
 {
     u64::from_be_bytes([

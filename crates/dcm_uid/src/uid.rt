@@ -22,34 +22,34 @@ const MOST_OF_UID: usize = 64;
 const MOST_OF_NEW: usize = 44;
 
 /// The UUID of version 8 of a digest (RFC 9562 5.8).
-fn uuid(d: &[u8; CODE_SIZE]) -> [u8; 16]
-    ensures { result ≡ spec.uuid d.now }
+fn uuid(digest: &[u8; CODE_SIZE]) -> [u8; 16]
+    ensures { result ≡ spec.uuid digest.now }
 {
     [
-        d[0],
-        d[1],
-        d[2],
-        d[3],
-        d[4],
-        d[5],
-        d[6] % 16 + VERSION,
-        d[7],
-        d[8] % 64 + VARIANT,
-        d[9],
-        d[10],
-        d[11],
-        d[12],
-        d[13],
-        d[14],
-        d[15],
+        digest[0],
+        digest[1],
+        digest[2],
+        digest[3],
+        digest[4],
+        digest[5],
+        digest[6] % 16 + VERSION,
+        digest[7],
+        digest[8] % 64 + VARIANT,
+        digest[9],
+        digest[10],
+        digest[11],
+        digest[12],
+        digest[13],
+        digest[14],
+        digest[15],
     ]
 }
 
 /// Its number.
-fn uuid_number(d: &[u8; CODE_SIZE]) -> u128
-    ensures { result ≡ spec.uuid_number d.now }
+fn uuid_number(digest: &[u8; CODE_SIZE]) -> u128
+    ensures { result ≡ spec.uuid_number digest.now }
 {
-    u128::from_be_bytes(uuid(d))
+    u128::from_be_bytes(uuid(digest))
 }
 
 /// Appends bytes, for which there is room.

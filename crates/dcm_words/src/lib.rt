@@ -27,6 +27,7 @@ mod usage;
 mod words;
 
 pub use job::{Build, Convert, Deidentify, Dump, Job, MOST_OF_KEY, Modify, Planned, Texts};
+pub use options::SEVERAL;
 pub use places::{TwoPaths, takes_next, two_paths};
 pub use plans::{dump_of_each, plan};
 pub use topic::{Topic, asked};

@@ -10,7 +10,7 @@ use dcm_deid::Retain;
 use dcm_edits::dictionary_word;
 
 /// The option by which dcmdump says of one file, too, which it is.
-const SEVERAL: &[u8] = b"+F";
+pub const SEVERAL: &[u8] = b"+F";
 
 /// A path, unless the word has the form of an option.
 pub fn other_word(word: &[u8]) -> Word
