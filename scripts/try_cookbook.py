@@ -293,6 +293,11 @@ def is_opened(name):
         return False
 
 
+def shown_name(name):
+    """A name as lines and headings have it."""
+    return b"".join(b"\\%02x" % byte if byte < 32 or byte in (92, 127) else bytes([byte]) for byte in name)
+
+
 def wrong_rows(run, files, names):
     """What is wrong with a table of these files, of which those that fail are named in failed.txt."""
     there = run.files.get(b"table.csv", (b"", 0))[0].decode("utf-8")
@@ -306,7 +311,7 @@ def wrong_rows(run, files, names):
         found = [row[1:] for row in rows if row[0].encode() == b"in/" + name]
         if len(found) != int(is_opened(name)) or name in TABLE_ROWS and found != [TABLE_ROWS[name]]:
             wrong.append(f"{name!r} has {found!r}")
-        shown = b"".join(b"\\%02x" % byte if byte < 32 or byte in (92, 127) else bytes([byte]) for byte in name)
+        shown = shown_name(name)
         line = b"dcmtools: in/" + shown + (b": R" if is_opened(name) else b": input cannot be opened")
         if failed.count(line) != int(TREE[name].fails and TREE[name].seen or not is_opened(name)):
             wrong.append(f"{name!r} is {failed.count(line)} times in failed.txt")
@@ -321,7 +326,7 @@ def cut_files_named(run):
     """Each file at fault is named, also behind its last column."""
     wrong = holds(run, {}) + ([] if run.status else ["status 0"])
     for name in TREE:
-        shown = b"".join(b"\\%02x" % byte if byte < 32 or byte in (92, 127) else bytes([byte]) for byte in name)
+        shown = shown_name(name)
         if run.printed.count(b"dcmtools: in/" + shown + b": ") != int(TREE[name].fails or not is_opened(name)):
             wrong.append(f"{name!r} is not named as it should be")
     return wrong
@@ -407,8 +412,15 @@ def converted_tree(run):
 
 
 def opaque_values(run):
-    wrong = [] if run.status else ["status 0"]
-    return wrong + holds(run, {}) + names_all(run, [name for name, file in TREE.items() if file.fails or file.opaque], run.printed)
+    """Each file that has opaque values has a heading, and each that cannot be read a line."""
+    wrong = holds(run, {}) + ([] if run.status else ["status 0"])
+    for name, file in TREE.items():
+        shown = re.escape(b"in/" + shown_name(name))
+        headings = len(re.findall(rb"^# dcmdump \(\d+/\d+\): " + shown + b"$", run.printed, re.MULTILINE))
+        lines = len(re.findall(rb"^dcmtools: " + shown + b": ", run.printed, re.MULTILINE))
+        if headings != int(file.opaque) or lines != int(file.fails or not is_opened(name)):
+            wrong.append(f"{name!r} has {headings} headings and {lines} lines")
+    return wrong
 
 
 def corrected_plan(run):
@@ -467,19 +479,15 @@ def identity_of_tree(run):
     return wrong + holds(run, outputs | {b"deidentified.csv": (None, 0o600), b"site.key": (None, 0o600)})
 
 
-LEFT = {
-    b"deidentified/deep/left.dcm": b"status 0\n(0010,0010) PN [AB^CD]",
-    b"deidentified/no.dcm": b"status 2\ndcmtools: R1 at byte 13",
-    b"deidentified/closed.dcm": b"status 1\n",
-}
+LINES_OF_LEFT = {b"deidentified/no.dcm": b"R1 at byte 13", b"deidentified/closed.dcm": b"input cannot be opened"}
 
 
 def identity_left(run):
     text = run.files.get(b"left.txt", (b"", 0))[0]
-    wrong = holds(run, {b"left.txt": (None, 0o644)} | OUTPUTS) + ([] if run.status else ["status 0"])
-    for path, line in LEFT.items():
-        shown = text.partition(path + b": ")[2].partition(b"\ndeidentified/")[0]
-        wrong += [] if shown.startswith(line) and (b"denied" in shown) == (b"closed" in path) else [f"of {path!r} it shows {shown!r}"]
+    wrong = holds(run, {b"left.txt": (None, 0o600)} | OUTPUTS) + ([] if run.status else ["status 0"])
+    is_shown = re.search(rb"^# dcmdump \(\d+/\d+\): deidentified/deep/left\.dcm\n\(0010,0010\) PN \[AB\^CD\]", text, re.MULTILINE)
+    wrong += [] if is_shown else [f"left.txt has {text!r}"]
+    wrong += [f"of {path!r} it does not say {line!r}" for path, line in LINES_OF_LEFT.items() if b"dcmtools: " + path + b": " + line not in run.printed]
     return wrong
 
 
@@ -563,17 +571,17 @@ BLOCKS = [
     Block("    dcmtools dcmconv +dict +te - - < \"$file\"", in_place, replaces=b"scan.dcm"),
     Block("dcmtools dcmconv +dict +te +r in converted", converted_tree, folder=b"converted"),
     Block("    echo '\"File\"", converted_tree, folder=b"converted", goes_on=True),
-    Block("        found=$(", opaque_values),
+    Block("    find in/ -type f -print0 | xargs -0 -r dcmtools dcmdump +dict +F", opaque_values, needs=("awk",)),
     Block("    dcmtools dcmodify +dict -m 'DoseReferenceSequence", corrected_plan, replaces=b"plan.dcm"),
     Block("dcmtools dcmodify +dict -m 'PatientName=Doe^Jane' +r", corrected_names, folder=b"fixed"),
     Block("    name=$(printf", latin_name, needs=("iconv",), replaces=b"scan.dcm"),
     Block("    (umask 077; > deidentified.csv)", identity_of_tree, folder=b"deidentified"),
-    Block("        left=$(", identity_left, with_outputs, sound=with_sound_outputs),
+    Block("    find deidentified/ -type f", identity_left, with_outputs, sound=with_sound_outputs),
     Block("    dcmtools dcmdeid +k site.key scan.dcm - |", identity_replaced),
     Block("dcmtools dcmdeid +k site.key +pi +rm key", moved_by_key, with_key, sound=with_key),
     Block("dcmtools dcmdeid +k site.key +pi +rm -1234", moved_study, with_key, sound=with_key),
     Block("printf 'PatientID", patient_found, with_key, needs=("openssl", "xxd"), sound=with_key),
-    Block("    umask 077", as_text),
+    Block("    dcmtools dcmdump +L scan.dcm > scan.txt", as_text),
     Block("    dcmtools dcmdump +L scan.dcm |", built),
     Block("    ssh archive", from_elsewhere, needs=("ssh",)),
     Block("    for syntax in", which_syntax),
