@@ -134,8 +134,9 @@ pub fn deidentified_reads()
     ensures { DeidentifiedReads }
 {}
 
-/// Nothing that dcmdeid took out of a file without fault is in its output, at any depth. So it is where the output is
-/// read again by the whole dictionary. However the output is read, it is read without fault.
+/// Nothing that dcmdeid took out of a file without fault is in its output, at any depth. What was made of a value is
+/// empty, an identifier, a pseudonym, or dates that there are, and may have a pad byte. So it is where the output is read
+/// again by the whole dictionary. However the output is read, it is read without fault.
 pub fn output_is_clean()
     ensures { OutputIsClean }
 {}
