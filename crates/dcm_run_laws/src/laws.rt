@@ -144,8 +144,8 @@ pub fn output_is_clean()
     ensures { OutputIsClean }
 {}
 
-/// Where head and data set named the same instance, they name the same new one in the output of dcmdeid. That is where
-/// unique identifiers are replaced, and padding is set aside.
+/// Where head and data set named the same instance, they name the same one in the output of dcmdeid, padding set aside.
+/// So it is where unique identifiers are replaced, or the transfer syntax is not big endian.
 pub fn instance_agrees()
     ensures { InstanceAgrees }
 {}
