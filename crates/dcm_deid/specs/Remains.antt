@@ -6,12 +6,15 @@ use Rattle.dcm_base.specs.Tables.Representation.{pad}
 use Rattle.dcm_base.specs.Tree.Value.{evened}
 use Rattle.dcm_deid.specs.declared.fate.Fate.{Fate}
 use Rattle.dcm_deid.specs.declared.fate.Fate.TheVariants.{Remove, Empty, Replace, Anew, Keep}
+use Rattle.dcm_deid.specs.declared.fate.NewValue.{NewValue}
 use Rattle.dcm_deid.specs.declared.fate.Options.{Options}
 use Rattle.dcm_deid.specs.declared.fate.Depth.{Depth}
 use Rattle.dcm_deid.specs.declared.fate.Depth.TheVariants.{Inside}
 use Rattle.dcm_deid.specs.declared.fate.ReadAs.TheVariants.{AsBytes, AsItems}
 use Rattle.dcm_deid.specs.Fate.{fate_as}
 use Rattle.dcm_deid.specs.Deidentify.{Renaming, dummy, Fates, by_fate}
+use Rattle.dcm_deid.specs.MadeForms.{HasForm}
+use Rattle.dcm_deid.specs.MadeNew.{made_new}
 
 -- what was made of some value, with its pad byte
 abbrev pub IsRenamed : (List ℕ → List ℕ) → Vr → List ℕ → Type 0
@@ -24,6 +27,16 @@ ValueIsClean new Empty vr value = value ≡ []
 ValueIsClean new Replace vr value = value ≡ dummy vr
 ValueIsClean new (Anew made) vr value = IsRenamed (new made) vr value
 ValueIsClean new Keep vr value = Unit {0}
+
+-- what was made of some value, of the form that is made, with its pad byte
+abbrev pub IsMadeAnew : Options → (key : List ℕ) → NewValue → Vr → List ℕ → Type 0
+IsMadeAnew options key made vr value = (old : List ℕ) × HasForm made (made_new options key made old)
+    × (value ≡ evened (pad vr) (made_new options key made old))
+
+-- so is a value that is made anew, by the fate of its element
+abbrev pub ValueIsMade : Options → (key : List ℕ) → Fate → Vr → List ℕ → Type 0
+ValueIsMade options key (Anew made) vr value = IsMadeAnew options key made vr value
+ValueIsMade options key fate vr value = Unit {0}
 
 -- a sequence whose items, if it is kept, are clean
 abbrev pub SequenceIsClean : Fate → Items → (clean : Type 0) → Type 0
@@ -53,6 +66,10 @@ abbrev mutual
 -- nothing that was taken is in a data set, at any depth
 abbrev pub IsClean : Fates → Renaming → Depth → Trees → Type 0
 IsClean fates new depth set = AreClean (ValueIsClean new) fates depth set
+
+-- each value that is made anew has the form that is made, at any depth
+abbrev pub AreMadeAnew : Options → (key : List ℕ) → Depth → Trees → Type 0
+AreMadeAnew options key depth set = AreClean (ValueIsMade options key) (fate_as options) depth set
 
 -- what is not kept goes
 abbrev pub kept_or_removed : Fate → Fate

@@ -24,7 +24,7 @@ ghost use Rattle.dcm_base.specs.declared.dictionary.Dictionary.TheVariants.{Stan
 ghost use Rattle.dcm_deid.specs.declared.fate.Fate.TheVariants.{Keep, Remove};
 ghost use Rattle.dcm_deid.specs.Laws.{BarSteps, DeidentifySteps, PixelSteps};
 ghost use Rattle.dcm_deid.specs.Pairs.{Pairs};
-ghost use Rattle.dcm_deid.specs.Remains.{IsClean, kept_of};
+ghost use Rattle.dcm_deid.specs.Remains.{AreMadeAnew, IsClean, kept_of};
 ghost use Rattle.dcm_deid.specs.Uids.{HeadsBy, NewByKey, SetsBy, UidsAgree};
 
 /// The numbers of the table ascend, so that it has no tag twice.
@@ -40,10 +40,13 @@ pub fn nothing_flows()
         ≡ deidentified_set (moving options e) (made_new (moving options e) key) depth g }
 {}
 
-/// Nothing that is taken is left, at any depth.
+/// Nothing that is taken is left, at any depth. Each value that is made anew has the form that is made: it is empty, an
+/// identifier, a pseudonym, or dates that there are, and may have a pad byte.
 pub fn taken_is_gone()
-    ensures { (options : Options) (new : Renaming) (depth : Depth) (f : Trees)
+    ensures clean { (options : Options) (new : Renaming) (depth : Depth) (f : Trees)
         → IsClean (fate_as options) new depth (deidentified_set options new depth f) }
+    ensures made { (options : Options) (key : List ℕ) (depth : Depth) (f : Trees)
+        → AreMadeAnew options key depth (deidentified_set options (made_new options key) depth f) }
 {}
 
 /// What has fate keep, and is no sequence that was read as bytes, is as it was, at every depth.

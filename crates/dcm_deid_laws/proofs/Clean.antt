@@ -31,6 +31,7 @@ use Rattle.dcm_deid.specs.Deidentify.{dummy, value_by, leaf_by, sequence_by, fra
 use Rattle.dcm_deid.specs.Remains.{AreClean, IsKept, ItemsAreClean, SequenceIsClean}
 use Rattle.dcm_deid.specs.MadeNew.{made_new}
 use Rattle.dcm_deid.specs.Saying.{says, tag_at, unsaid}
+use Rattle.dcm_deid.proofs.Formed.{made_form}
 use Rattle.dcm_deid_laws.specs.Clean.{WrittenIsClean}
 use Rattle.dcm_deid_laws.proofs.Named.{AreNamed, IsNamed, ItemsAreNamed, named_after, same_after}
 use Rattle.dcm_deid_laws.proofs.Ready.{dummy_short, renamed_short}
@@ -112,21 +113,21 @@ module _ (options : Options) (key : List ℕ) where
   without_items x = items_by_fate (fate_as options) (value_by (made_new options key)) x
 
   abbrev Clean : Depth → Trees → Type 0
-  Clean depth x = AreClean (WrittenIsClean (made_new options key)) (fate_as options) depth x
+  Clean depth x = AreClean (WrittenIsClean options key) (fate_as options) depth x
 
   abbrev CleanItems : Items → Type 0
-  CleanItems x = ItemsAreClean (WrittenIsClean (made_new options key)) (fate_as options) x
+  CleanItems x = ItemsAreClean (WrittenIsClean options key) (fate_as options) x
 
   set_if : (depth : Depth) (b : Bool) (x y : Trees) → Clean depth x → Clean depth y → Clean depth (if b then x else y)
   set_if depth true x y h k = h
   set_if depth false x y h k = k
 
   -- a leaf with a new value
-  value_back : (s : Syntax) (depth : Depth) (fate : Fate) (t : Tag) (vr : Vr) (v : List ℕ) (rest : Trees) → fate_as options depth AsBytes t ≡ fate → WrittenIsClean (made_new options key) fate (normal_vr s t vr (length v)) (normal_value s t vr v)
+  value_back : (s : Syntax) (depth : Depth) (fate : Fate) (t : Tag) (vr : Vr) (v : List ℕ) (rest : Trees) → fate_as options depth AsBytes t ≡ fate → WrittenIsClean options key fate (normal_vr s t vr (length v)) (normal_value s t vr v)
       → Clean depth (normal (after s t (normal_vr s t vr (length v)) (normal_value s t vr v)) rest) → Clean depth (normal s (leaf t vr v rest))
   unfolding normal
   value_back s depth fate t vr v rest e is h =
-      set_if depth (t.element == 0) _ _ h (subst (λ (k : Fate). WrittenIsClean (made_new options key) k (normal_vr s t vr (length v)) (normal_value s t vr v)) (sym e) is, h)
+      set_if depth (t.element == 0) _ _ h (subst (λ (k : Fate). WrittenIsClean options key k (normal_vr s t vr (length v)) (normal_value s t vr v)) (sym e) is, h)
 
   leaf_back : (s : Syntax) (depth : Depth) (fate : Fate) (t : Tag) (vr : Vr) (v : List ℕ) (rest : Trees) → fate_as options depth AsBytes t ≡ fate → IsNamed s t vr → AreNamed (after s t vr v) rest
       → ((k : Syntax) → AreNamed k rest → Clean depth (normal k (without depth rest))) → Clean depth (normal s (leaf_by fate t vr (value_by (made_new options key) fate vr v) (without depth rest)))
@@ -147,7 +148,7 @@ module _ (options : Options) (key : List ℕ) where
       let old : List ℕ = without_pads v in
       let u : List ℕ = evened (pad vr) (made_new options key made old) in
       value_back s depth (Anew made) t vr u (without depth rest) e
-      (old, renamed_written options made s t vr key old is ∙ ap (λ (w : Vr). evened (pad w) (made_new options key made old)) (sym (short_vr s t vr (length u) (renamed_short options key made vr old) is)))
+      (old, made_form options key made old, renamed_written options made s t vr key old is ∙ ap (λ (w : Vr). evened (pad w) (made_new options key made old)) (sym (short_vr s t vr (length u) (renamed_short options key made vr old) is)))
       (more _ (subst (λ (k : Syntax). AreNamed k rest) (sym (same_after s t _ _ none)) here))
   leaf_back s depth Keep t vr v rest e is named more = value_back s depth Keep t vr v (without depth rest) e tt (more _ (named_after s t vr v rest is named))
 

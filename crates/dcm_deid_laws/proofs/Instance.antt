@@ -1,16 +1,17 @@
 -- The instance that is named in what is read back.
-use Rattle.std.proofs.Common.{◌≡◌, ◌∙◌, ap, sym, refl, ℕ, ◌≤◌, List, [], ◌∷◌, length, Bool, true, false, Option, Some, ◌==◌, if◌then◌else◌}
+use Rattle.std.proofs.Common.{◌≡◌, ◌∙◌, ap, sym, refl, ℕ, ◌≤◌, List, [], ◌∷◌, length, Bool, true, false, Option, Some, ◌⊎◌, inl, inr, ◌==◌, if◌then◌else◌}
+use Rattle.dcm_base.specs.declared.dictionary.Dictionary.{Dictionary}
 use Rattle.dcm_base.specs.declared.syntax.Syntax.{Syntax}
 use Rattle.dcm_base.specs.declared.syntax.Syntax.TheVariants.{Implicit as implicit_in, Little as little_in, Big as big_in}
 use Rattle.dcm_base.specs.declared.tag.Tag.{Tag}
 use Rattle.dcm_base.specs.declared.vr.Vr.{Vr}
 use Rattle.dcm_base.specs.declared.vr.Vr.TheVariants.{UI}
-use Rattle.dcm_base.specs.Bytes.Spelling.{after}
+use Rattle.dcm_base.specs.Bytes.Spelling.{after, dictionary_after}
 use Rattle.dcm_base.specs.Conversion.NewMeta.{with_syntax, without_syntax}
 use Rattle.dcm_base.specs.Conversion.Normal.{normal, normal_value, normal_vr}
 use Rattle.dcm_base.specs.Conversion.Recode.{even, too_long}
 use Rattle.dcm_base.specs.Tables.Representation.{pad}
-use Rattle.dcm_base.specs.Tables.Syntax.{Little}
+use Rattle.dcm_base.specs.Tables.Syntax.{Little, dictionary_of, is_big, read_by}
 use Rattle.dcm_base.specs.Tables.Tag.{below, is_tag, same_tag}
 use Rattle.dcm_base.specs.Tables.Transfer.{without_pads}
 use Rattle.dcm_base.specs.Tree.Tree.{Trees, no_tree, leaf, sequence, fragments, Items, then_trees}
@@ -69,27 +70,57 @@ dropped_or : (c : Bool) (x : Trees) (tree : Trees → Trees) (u : Option (List �
 dropped_or true x tree u e h = e
 dropped_or false x tree u e h = h x ∙ e
 
-leaf_names : (s : Syntax) (t : Tag) (vr : Vr) (v : List ℕ) (rest : Trees) (c : Bool) → same_tag t own ≡ c → (same_tag t own ≡ true → IsShort v) → ((k : Syntax) → unpadded own (normal k rest) ≡ unpadded own rest)
-    → unpadded own (normal s (leaf t vr v rest)) ≡ (if c then Some (without_pads v) else unpadded own rest)
+leaf_names : (s : Syntax) (t : Tag) (vr : Vr) (v : List ℕ) (rest : Trees) (c : Bool) → same_tag t own ≡ c → (same_tag t own ≡ true → without_pads (normal_value s t vr v) ≡ without_pads v)
+    → unpadded own (normal (after s t (normal_vr s t vr (length v)) (normal_value s t vr v)) rest) ≡ unpadded own rest → unpadded own (normal s (leaf t vr v rest)) ≡ (if c then Some (without_pads v) else unpadded own rest)
 unfolding normal
-leaf_names s t vr v rest true e short more =
+leaf_names s t vr v rest true e same more =
     let w : Vr = normal_vr s t vr (length v) in
     let x : List ℕ = normal_value s t vr v in
     let r : Trees = normal (after s t w x) rest in
-    let k = short e in
     ap (λ (b : Bool). unpadded own (if b then r else leaf t w x r)) (stays_there t e) ∙ ap (λ (b : Bool). if b then Some (without_pads x) else unpadded own r) e
-    ∙ ap (λ (y : List ℕ). Some y) (written_pads s t vr v k.0 k.1 k.2)
-leaf_names s t vr v rest false e short more =
+    ∙ ap (λ (y : List ℕ). Some y) (same e)
+leaf_names s t vr v rest false e same more =
     let w : Vr = normal_vr s t vr (length v) in
     let x : List ℕ = normal_value s t vr v in
-    dropped_or (t.element == 0) (normal (after s t w x) rest) (leaf t w x) (unpadded own rest) (more (after s t w x)) (λ r. ap (λ (b : Bool). if b then Some (without_pads x) else unpadded own r) e)
+    dropped_or (t.element == 0) (normal (after s t w x) rest) (leaf t w x) (unpadded own rest) more (λ r. ap (λ (b : Bool). if b then Some (without_pads x) else unpadded own r) e)
 
 pub normal_names : (s : Syntax) (x : Trees) → NamesShort x → unpadded own (normal s x) ≡ unpadded own x
 unfolding normal
 normal_names s no_tree h = refl
-normal_names s (leaf t vr v rest) h = leaf_names s t vr v rest (same_tag t own) refl h.0 (λ k. normal_names k rest h.1)
+normal_names s (leaf t vr v rest) h =
+    leaf_names s t vr v rest (same_tag t own) refl (λ e. let k = h.0 e in written_pads s t vr v k.0 k.1 k.2) (normal_names (after s t (normal_vr s t vr (length v)) (normal_value s t vr v)) rest h.1)
 normal_names s (sequence t vr declared items rest) h = own_if (t.element == 0) _ _ (unpadded own rest) (normal_names s rest h) (normal_names s rest h)
 normal_names s (fragments t vr parts rest) h = own_if (t.element == 0) _ _ (unpadded own rest) (normal_names s rest h) (normal_names s rest h)
+
+-- in little endian any value is, but for padding
+either : (c : Bool) (v : List ℕ) → (if c then v else v) ≡ v
+either true v = refl
+either false v = refl
+
+little_value : (d : Dictionary) (t : Tag) (vr : Vr) (v : List ℕ) → without_pads (normal_value (little_in d) t vr v) ≡ without_pads v
+little_value d t vr v = ap (λ (y : List ℕ). without_pads (evened (pad vr) y)) (either (too_long (little_in d) vr (length v)) v) ∙ without_pad vr v
+
+little_pads : (s : Syntax) → is_big s ≡ false → (t : Tag) (vr : Vr) (v : List ℕ) → without_pads (normal_value s t vr v) ≡ without_pads v
+little_pads (implicit_in d) is t vr v = without_pad vr v
+little_pads (little_in d) is t vr v = little_value d t vr v
+little_pads (big_in d) is t vr v = absurd (let no : true ≡ false = is in cc)
+
+pub big_by : (d : Dictionary) (s : Syntax) → is_big (read_by d s) ≡ is_big s
+big_by d (implicit_in e) = refl
+big_by d (little_in e) = refl
+big_by d (big_in e) = refl
+
+big_after : (s : Syntax) (t : Tag) (vr : Vr) (v : List ℕ) → is_big s ≡ false → is_big (after s t vr v) ≡ false
+big_after s t vr v is = big_by (dictionary_after (dictionary_of s) t vr v) s ∙ is
+
+little_names : (s : Syntax) (x : Trees) → is_big s ≡ false → unpadded own (normal s x) ≡ unpadded own x
+unfolding normal
+little_names s no_tree is = refl
+little_names s (leaf t vr v rest) is =
+    leaf_names s t vr v rest (same_tag t own) refl (λ e. little_pads s is t vr v)
+    (little_names (after s t (normal_vr s t vr (length v)) (normal_value s t vr v)) rest (big_after s t (normal_vr s t vr (length v)) (normal_value s t vr v) is))
+little_names s (sequence t vr declared items rest) is = own_if (t.element == 0) _ _ (unpadded own rest) (little_names s rest is) (little_names s rest is)
+little_names s (fragments t vr parts rest) is = own_if (t.element == 0) _ _ (unpadded own rest) (little_names s rest is) (little_names s rest is)
 
 module _ (options : Options) (key : List ℕ) (new : options.uids ≡ false) where
   abbrev left : Trees → Trees
@@ -151,8 +182,14 @@ module _ (options : Options) (key : List ℕ) (new : options.uids ≡ false) whe
   said_none =
       (λ x h. (λ same. absurd (cc), h), (λ same. absurd (cc), tt), (λ x h. (λ same. absurd (cc), h), (λ same. absurd (cc), tt), (λ x h. h, tt, (λ x h. (λ same. absurd (cc), h), (λ same. absurd (cc), tt), tt))))
 
-  pub all_left_names : (s : Syntax) (x : Trees) → unpadded own (normal s (set_with_all (said options) (left x))) ≡ unpadded own (set_with_all (said options) (left x))
+  all_left_names : (s : Syntax) (x : Trees) → unpadded own (normal s (set_with_all (said options) (left x))) ≡ unpadded own (set_with_all (said options) (left x))
   all_left_names s x = normal_names s (set_with_all (said options) (left x)) (all_names (said options) (left x) said_none (left_names x))
+
+-- where unique identifiers are replaced, or the syntax is not big endian
+pub written_names : (options : Options) (key : List ℕ) (s : Syntax) (x : Trees) → (options.uids ≡ false) ⊎ (is_big s ≡ false)
+    → unpadded own (normal s (set_with_all (said options) (deidentified_set options (made_new options key) Outermost x))) ≡ unpadded own (set_with_all (said options) (deidentified_set options (made_new options key) Outermost x))
+written_names options key s x (inl new) = all_left_names options key new s x
+written_names options key s x (inr little) = little_names s (set_with_all (said options) (deidentified_set options (made_new options key) Outermost x)) little
 
 -- ---- in the head of a file
 
@@ -196,12 +233,8 @@ head_with uid (leaf t vr v rest) = with_leaf t vr v rest (is_tag 2 0x10 t) UI ui
 head_with uid (sequence t vr declared items rest) = head_with uid rest
 head_with uid (fragments t vr values rest) = head_with uid rest
 
-either : (c : Bool) (v : List ℕ) → (if c then v else v) ≡ v
-either true v = refl
-either false v = refl
-
 head_pads : (t : Tag) (vr : Vr) (v : List ℕ) → without_pads (normal_value Little t vr v) ≡ without_pads v
-head_pads t vr v = ap (λ (y : List ℕ). without_pads (evened (pad vr) y)) (either (too_long Little vr (length v)) v) ∙ without_pad vr v
+head_pads t vr v = little_pads Little refl t vr v
 
 head_stays : (t : Tag) → same_tag t instance ≡ true → (t.element == 0) ≡ false
 head_stays t e = ap (λ (x : Tag). x.element == 0) (tag_is t instance e)

@@ -125,7 +125,7 @@ module _ (options : Options) (key : List ℕ) (s : Syntax) (at : ℕ) (f : Front
   -- ---- nothing that was taken is in it
 
   abbrev Clean : Trees → Type 0
-  Clean set = AreClean (WrittenIsClean (made_new options key)) (fate_as options) Outermost set
+  Clean set = AreClean (WrittenIsClean options key) (fate_as options) Outermost set
 
   left_unsaid : (trees : Trees) → unsaid (left_of trees) ≡ unsaid (deidentified_set options (made_new options key) Outermost trees)
   left_unsaid trees =

@@ -12,8 +12,9 @@ pub fn deidentified_reads()
 {}
 
 /// So nothing that was taken is in what is read back, at any depth. Each element that is not kept has no value, the one
-/// that is put for all, or a new unique identifier, as these are written, and each one has a tag of the dictionary. The
-/// elements that say what was done are set aside.
+/// that is put for all, or one that was made of the old, as these are written, and each one has a tag of the dictionary.
+/// What was made has its form: it is empty, an identifier, a pseudonym, or dates that there are, and then may come a pad
+/// byte. The elements that say what was done are set aside.
 pub fn written_is_clean()
     ensures { TakenIsGone }
 {}

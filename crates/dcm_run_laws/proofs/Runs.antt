@@ -2,3 +2,4 @@
 pub mod NoEdits
 pub mod NothingFlows
 pub mod FirstLaws
+pub mod SureFirst

@@ -1,5 +1,5 @@
 -- By which days the dates of a file are moved where a key makes them.
-use Rattle.std.specs.Prelude.{◌≡◌, ◌≢◌, ℕ, ℤ, negsuc, ◌≤ℤ◌, true, Bool, List, [], drop, length, Some}
+use Rattle.std.specs.Prelude.{◌≡◌, ◌≢◌, ℕ, ℤ, negsuc, ◌≤ℤ◌, true, Bool, List, [], ◌++◌, drop, length, Some}
 use Rattle.std.specs.Option.{option_map_or}
 use Rattle.dcm_base.specs.declared.dictionary.Dictionary.TheVariants.{Standard}
 use Rattle.dcm_base.specs.declared.fault.Stop.{Stop as FaultAt}
@@ -22,7 +22,7 @@ use Rattle.dcm_words.specs.Words.{with_days}
 use Rattle.dcm_cli.specs.declared.first.FirstEnd.{FirstEnd}
 use Rattle.dcm_cli.specs.declared.first.FirstEnd.TheVariants.{Days}
 use Rattle.dcm_cli.specs.Answer.{Answer, HeadIs, set_at}
-use Rattle.dcm_cli.specs.First.{FirstReads, SetReads, fault_at, is_at_patient, patient_end, patient_of}
+use Rattle.dcm_cli.specs.First.{FirstReads, IsUndecided, SetReads, fault_at, is_at_patient, patient_end, patient_of}
 use Rattle.dcm_run_laws.specs.Flows.{IsDeidentified, meta_left}
 
 -- a file names this patient: its reading up to PatientID stops at a whole value of that, at the outermost level
@@ -69,6 +69,12 @@ patient_in set = option_map_or named_by (unpadded PATIENT_ID set) []
 abbrev pub place_of : Stop → (size : ℕ) → ℕ
 place_of complete size = size
 place_of (refused fault offset) size = offset
+
+-- where more bytes cannot change how the first reading of these ends, that of all files that begin with them ends so
+abbrev pub FirstReadingStays : Type 0
+FirstReadingStays =
+    (key bytes rest : List ℕ) (end : FirstEnd) → (IsUndecided bytes → ⊥) → FirstReads key bytes end
+    → FirstReads key (bytes ++ rest) end
 
 -- of a file that is read without fault the first reading ends in the days of the patient whom its outermost PatientID
 -- names, and without such a one in R17, where the reading stops that goes up to PatientID

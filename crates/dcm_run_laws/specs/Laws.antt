@@ -26,7 +26,7 @@ use Rattle.dcm_cli.specs.Status.{DONE, REMARK}
 use Rattle.dcm_run_laws.specs.ReadsAgain.{InOutput, InWholeOutput, IsConverted, IsModified, IsTaken}
 use Rattle.dcm_run_laws.specs.ReadsAgain.{ReadsConverted, ReadsModified, ReadsTaken}
 use Rattle.std.specs.Prelude.{◌≡◌, ◌⊎◌, Bool, List, None, Option, false, neg_ℤ, true, ℕ, ℤ}
-use Rattle.dcm_base.specs.Tables.Syntax.{read_by}
+use Rattle.dcm_base.specs.Tables.Syntax.{is_big, read_by}
 use Rattle.dcm_base.specs.declared.mode.Mode.TheVariants.{Full}
 use Rattle.dcm_base.specs.Reading.Stop.{Stop}
 
@@ -164,12 +164,12 @@ OutputIsClean =
     (options : Options) (reports : Bool) (key input : List ℕ) (a : Answer) (m : Meta) (coding : Coding) (f : Front)
     → IsTaken options reports key input a m coding f → InOutput Standard (λ s set. NothingIsLeft options key set) a
 
--- where unique identifiers are replaced, and the head of the file and its data set named the same instance, they name the same new one in
--- the output, however the whole dictionary reads that
+-- where unique identifiers are replaced, or the transfer syntax is not big endian, and the head of the file and its data
+-- set named the same instance, they name the same one in the output, however the whole dictionary reads that
 abbrev pub InstanceAgrees : Type 0
 InstanceAgrees =
     (options : Options) (reports : Bool) (key input : List ℕ) (a : Answer) (m : Meta) (coding : Coding) (f : Front)
-    → IsTaken options reports key input a m coding f → options.uids ≡ false
+    → IsTaken options reports key input a m coding f → (options.uids ≡ false) ⊎ (is_big coding.syntax ≡ false)
     → instance_of_head m ≡ instance_of_set (whole_of f)
     → (n : Meta) (c : Coding) (set : Front) (stop : Stop)
     → FileReads (words.dump Standard Full None) a.output (file n c set stop)

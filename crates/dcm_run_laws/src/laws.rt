@@ -8,7 +8,7 @@ ghost use Rattle.dcm_run_laws.specs.Laws.{ThereAndBack};
 ghost use Rattle.dcm_run_laws.specs.DumpBuilds.{DumpBuilds};
 ghost use Rattle.dcm_run_laws.specs.NoEdits.{NoEditsConvert};
 ghost use Rattle.dcm_run_laws.specs.FirstLaws.{FirstEndsOnce, FirstEnds, DaysAreOfPatient, PatientHasDays};
-ghost use Rattle.dcm_run_laws.specs.FirstLaws.{FirstReadingDecides};
+ghost use Rattle.dcm_run_laws.specs.FirstLaws.{FirstReadingDecides, FirstReadingStays};
 ghost use Rattle.dcm_run_laws.specs.FirstLaws.{OnePatientOneMove, MovesBack, NothingFlowsByKey};
 ghost use Rattle.dcm_run_laws.specs.Flows.{NothingFlows};
 
@@ -105,11 +105,14 @@ pub fn first_reading_ends()
     ensures some { FirstEnds }
 {}
 
-/// The first reading of a file without fault ends in the days of its outermost PatientID, or in R17. It is R17 where
-/// there is none that is a value, and where that is padding alone, or too long. Its place is that at which a reading
-/// stops that goes up to PatientID and no further: where that stands, else the head above it, else the end of the file.
+/// What the first reading of a file ends in is decided by the bytes that it reads. Where more bytes cannot change how the
+/// reading of these ends, that is the same for all files that begin with them. Of a file without fault it is the days of
+/// its outermost PatientID, or R17. It is R17 where there is none that is a value, and where that is padding alone, or
+/// too long. Its place is that at which a reading stops that goes up to PatientID and no further: where that stands,
+/// else the head above it, else the end of the file.
 pub fn first_reading_decides()
-    ensures { FirstReadingDecides }
+    ensures stays { FirstReadingStays }
+    ensures decides { FirstReadingDecides }
 {}
 
 /// The days that the key makes of a file are those of the patient whom its outermost PatientID names. So two files of
@@ -134,14 +137,15 @@ pub fn deidentified_reads()
     ensures { DeidentifiedReads }
 {}
 
-/// Nothing that dcmdeid took out of a file without fault is in its output, at any depth. So it is where the output is
-/// read again by the whole dictionary. However the output is read, it is read without fault.
+/// Nothing that dcmdeid took out of a file without fault is in its output, at any depth. What was made of a value is
+/// empty, an identifier, a pseudonym, or dates that there are, and may have a pad byte. So it is where the output is read
+/// again by the whole dictionary. However the output is read, it is read without fault.
 pub fn output_is_clean()
     ensures { OutputIsClean }
 {}
 
-/// Where head and data set named the same instance, they name the same new one in the output of dcmdeid. That is where
-/// unique identifiers are replaced, and padding is set aside.
+/// Where head and data set named the same instance, they name the same one in the output of dcmdeid, padding set aside.
+/// So it is where unique identifiers are replaced, or the transfer syntax is not big endian.
 pub fn instance_agrees()
     ensures { InstanceAgrees }
 {}

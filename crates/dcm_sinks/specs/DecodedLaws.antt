@@ -11,11 +11,12 @@ use Rattle.dcm_base.specs.Steps.Atoms.{Atom, Shows, front_atoms, is_closed}
 use Rattle.dcm_base.specs.Steps.Steps.{outputs}
 use Rattle.dcm_base.specs.Tree.Front.{Front}
 use Rattle.dcm_text.specs.declared.sets.Sets.{Sets}
+use Rattle.dcm_text.specs.Laws.{is_plain}
 use Rattle.dcm_sinks.specs.InForce.{EMPTY}
 use Rattle.dcm_sinks.specs.DecodedDump.{decoded_front}
 use Rattle.dcm_sinks.specs.DecodedSink.{decoded_start, decoded_step, decoded_writes}
 use Rattle.dcm_sinks.specs.Laws.{StaysShallow}
-use Rattle.dcm_sinks.specs.PlainTexts.{PlainFront}
+use Rattle.dcm_sinks.specs.PlainTexts.{FrontOf, is_low}
 
 -- what the sink writes of the atoms of a data set is its dump by characters
 abbrev pub DecodedDumpsShown : Type 0
@@ -39,7 +40,13 @@ DecodedDumpsSoFar =
     → is_closed f ≡ false → Reads no_bar s start bytes (ended stop f) stop
     → outputs decoded_step decoded_writes (decoded_start d mode) (front_atoms s f) ≡ decoded_front d mode EMPTY 0 f
 
--- where all texts are ASCII and designate nothing, the dump is the one without characters, whatever is in force
+-- where all texts are ASCII, and designate nothing by what they are read by, the dump is the one without characters: ESC
+-- may be in a text, unless code extensions are in force there and the text is one that they concern
 abbrev pub DecodedOfAscii : Type 0
-DecodedOfAscii = (d : Dictionary) (mode : Mode) (sets : Sets) (level : ℕ) (f : Front) → PlainFront f
+DecodedOfAscii = (d : Dictionary) (mode : Mode) (sets : Sets) (level : ℕ) (f : Front) → FrontOf is_plain sets f
+    → decoded_front d mode sets level f ≡ dump_front d mode level f
+
+-- so it is where no text has an ESC, whatever is in force
+abbrev pub DecodedOfLow : Type 0
+DecodedOfLow = (d : Dictionary) (mode : Mode) (sets : Sets) (level : ℕ) (f : Front) → FrontOf is_low sets f
     → decoded_front d mode sets level f ≡ dump_front d mode level f

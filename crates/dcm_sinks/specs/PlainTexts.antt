@@ -6,43 +6,51 @@ use Rattle.dcm_base.specs.Tree.Tree.{Trees, no_tree, leaf, sequence, fragments, 
 use Rattle.dcm_base.specs.Tree.Front.{Front, front, OpenTree, nothing_open, open_leaf, open_sequence, open_fragments}
 use Rattle.dcm_base.specs.Tree.Front.{OpenItem, no_open_item, open_item}
 use Rattle.dcm_base.specs.Dump.ValueText.{unpadded}
+use Rattle.dcm_text.specs.declared.sets.Sets.{Sets}
+use Rattle.dcm_value.specs.DecodedProgress.{sets_for}
+use Rattle.dcm_sinks.specs.InForce.{set_by, sets_after}
 use Rattle.dcm_sinks.specs.DecodedDump.{is_decoded}
 
--- a byte below 80 that begins no designation: no ESC
-abbrev pub is_low_byte : ℕ → Bool
-is_low_byte b = nat_lt b 0x80 && not (b == 0x1B)
+-- which bytes are meant, by the sets that they are read by
+abbrev pub Bytes : Type 0
+Bytes = Sets → ℕ → Bool
 
--- a value that is no text, or whose bytes are such, but for a pad byte
-abbrev pub is_low_value : Vr → List ℕ → Bool
-is_low_value vr value = not (is_decoded vr) || list_all is_low_byte (unpadded vr value)
+-- a byte below 80 that is no ESC, whatever it is read by
+abbrev pub is_low : Bytes
+is_low sets b = nat_lt b 0x80 && not (b == 0x1B)
+
+-- a value that is no text, or whose bytes are such where these sets are in force, but for a pad byte
+abbrev pub is_value_of : Bytes → Sets → Vr → List ℕ → Bool
+is_value_of bytes sets vr value = not (is_decoded vr) || list_all (bytes (sets_for vr sets)) (unpadded vr value)
 
 -- of an open value the pad byte is still to come
-abbrev pub is_low_open : Vr → List ℕ → Bool
-is_low_open vr value = not (is_decoded vr) || list_all is_low_byte value
+abbrev pub is_open_of : Bytes → Sets → Vr → List ℕ → Bool
+is_open_of bytes sets vr value = not (is_decoded vr) || list_all (bytes (sets_for vr sets)) value
 
--- so are all values of a data set
+-- so are all values of a data set, by what is in force in front of it
 unfoldable mutual
-  pub PlainSet : Trees → Type 0
-  PlainSet no_tree = Unit {0}
-  PlainSet (leaf tag vr value rest) = (is_low_value vr value ≡ true) × PlainSet rest
-  PlainSet (sequence tag vr declared items rest) = PlainItems items × PlainSet rest
-  PlainSet (fragments tag vr values rest) = PlainSet rest
+  pub SetOf : Bytes → Sets → Trees → Type 0
+  SetOf bytes sets no_tree = Unit {0}
+  SetOf bytes sets (leaf tag vr value rest) = (is_value_of bytes sets vr value ≡ true)
+      × SetOf bytes (set_by tag vr value sets) rest
+  SetOf bytes sets (sequence tag vr declared items rest) = ItemsOf bytes sets items × SetOf bytes sets rest
+  SetOf bytes sets (fragments tag vr values rest) = SetOf bytes sets rest
 
-  pub PlainItems : Items → Type 0
-  PlainItems no_item = Unit {0}
-  PlainItems (item declared set rest) = PlainSet set × PlainItems rest
+  pub ItemsOf : Bytes → Sets → Items → Type 0
+  ItemsOf bytes sets no_item = Unit {0}
+  ItemsOf bytes sets (item declared set rest) = SetOf bytes sets set × ItemsOf bytes sets rest
 
 -- so it is as far as a data set was read
 unfoldable mutual
-  pub PlainFront : Front → Type 0
-  PlainFront (front whole last reached closed) = PlainSet whole × PlainOpen last
+  pub FrontOf : Bytes → Sets → Front → Type 0
+  FrontOf bytes sets (front whole last reached closed) = SetOf bytes sets whole × OpenOf bytes (sets_after sets whole) last
 
-  pub PlainOpen : OpenTree → Type 0
-  PlainOpen nothing_open = Unit {0}
-  PlainOpen (open_leaf tag vr size value) = is_low_open vr value ≡ true
-  PlainOpen (open_sequence tag vr declared items last) = PlainItems items × PlainOpenItem last
-  PlainOpen (open_fragments tag vr values last) = Unit {0}
+  pub OpenOf : Bytes → Sets → OpenTree → Type 0
+  OpenOf bytes sets nothing_open = Unit {0}
+  OpenOf bytes sets (open_leaf tag vr size value) = is_open_of bytes sets vr value ≡ true
+  OpenOf bytes sets (open_sequence tag vr declared items last) = ItemsOf bytes sets items × OpenItemOf bytes sets last
+  OpenOf bytes sets (open_fragments tag vr values last) = Unit {0}
 
-  pub PlainOpenItem : OpenItem → Type 0
-  PlainOpenItem no_open_item = Unit {0}
-  PlainOpenItem (open_item declared set) = PlainFront set
+  pub OpenItemOf : Bytes → Sets → OpenItem → Type 0
+  OpenItemOf bytes sets no_open_item = Unit {0}
+  OpenItemOf bytes sets (open_item declared set) = FrontOf bytes sets set

@@ -6,7 +6,8 @@ ghost use Rattle.dcm_base.specs.File.MetaReads.{Meta};
 ghost use Rattle.dcm_base.specs.declared.syntax.Syntax.{Syntax};
 ghost use Rattle.dcm_stream.specs.Driven.{bars_by};
 ghost use Rattle.dcm_stream.specs.Follows.{BarsAs};
-ghost use Rattle.dcm_sinks.specs.DecodedLaws.{DecodedDumpsShown, DecodedDumpsWhole, DecodedDumpsSoFar, DecodedOfAscii};
+ghost use Rattle.dcm_sinks.specs.DecodedLaws.{DecodedDumpsShown, DecodedDumpsWhole, DecodedDumpsSoFar};
+ghost use Rattle.dcm_sinks.specs.DecodedLaws.{DecodedOfAscii, DecodedOfLow};
 ghost use Rattle.dcm_sinks.specs.EncodeSink.{encode_bar, encode_start, encode_step};
 ghost use Rattle.dcm_sinks.specs.Laws.{DumpsShown, DumpsWhole, DumpsSoFar, EncodesShown, EncodesWhole, EncodesSoFar};
 ghost use Rattle.dcm_sinks.specs.Laws.{ReadsBack, ChangesNothingAgain, NewMetaReads};
@@ -35,10 +36,12 @@ pub fn decoded_dump_reads()
     ensures so_far { DecodedDumpsSoFar }
 {}
 
-/// A data set whose texts are of bytes below 80, none of them an ESC, is dumped so as without characters, whatever is in
-/// force.
+/// A data set whose texts are of bytes below 80 is dumped so as without characters, unless an ESC is in one that code
+/// extensions concern. That is one of a representation that Specific Character Set is for, where what is in force of it
+/// has code extensions. It is dumped so whatever is in force, where no text has an ESC.
 pub fn decoded_dump_of_ascii()
-    ensures { DecodedOfAscii }
+    ensures by_sets { DecodedOfAscii }
+    ensures without_esc { DecodedOfLow }
 {}
 
 /// Over atoms that show a data set, whole or as far as it was read, the encode sink writes it in the target syntax,

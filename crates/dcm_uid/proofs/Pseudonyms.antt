@@ -1,6 +1,7 @@
 -- Pseudonyms and days of patients.
-use Rattle.std.proofs.Common.{◌≡◌, ◌≢◌, ◌<◌, ◌≤◌, ℕ, zero, suc, ◌*◌, ◌/◌, ◌%◌, Bool, true, false, List, [], ◌∷◌, length, take, refl, arith, ap, ◌∙◌, sym, w32, of_z, to_z, length-take}
-use Rattle.std.specs.Prelude.{negsuc, ◌-ℤ◌, ◌≤ℤ◌, ◌==◌, ◌&&◌, ◌||◌, not, nat_le, nat_lt}
+use Rattle.std.proofs.Common.{◌≡◌, ◌≢◌, ◌<◌, ◌≤◌, ℕ, zero, suc, ◌*◌, ◌/◌, ◌%◌, Bool, true, false, List, [], ◌∷◌, ◌++◌, length, take, refl, arith, ap, ◌∙◌, sym, w32, of_z, to_z, length-take}
+use Rattle.std.specs.Int.{from_be_bytes, w64}
+use Rattle.std.specs.Prelude.{codes, negsuc, ◌-ℤ◌, ◌≤ℤ◌, ◌==◌, ◌&&◌, ◌||◌, not, nat_le, nat_lt}
 use Rattle.std.specs.List.{flat_map, list_all, list_any}
 use Rattle.std.proofs.lemmas.Int.{ints}
 use Rattle.std.proofs.lemmas.Bool.{eqb-true, and_parts, not-true, both_ways}
@@ -108,6 +109,10 @@ messages_apart p q e = heads (ap first e)
 
     heads : (let p : ℕ = 80 in p ≡ 100) → ⊥
     heads e = omega (arith, e)
+
+pub days_by_code : (key p : List ℕ) → days key p ≡ negsuc (from_be_bytes w64 (take 8 (hmac_sha256 key (codes "days\\" ++ p))) % 3652)
+unfolding days
+days_by_code key p = refl
 
 pub days_within : (key p : List ℕ) → negsuc 3651 ≤ℤ days key p
 unfolding days

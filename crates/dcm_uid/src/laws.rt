@@ -1,5 +1,7 @@
 //! Laws of the definitions. Each function takes nothing and makes no call: its contract is the law.
-ghost use Rattle.std.specs.Prelude.{◌≡◌, ◌≢◌, ℕ, ℤ, negsuc, ◌≤ℤ◌, true, List, []};
+ghost use Rattle.std.specs.Prelude.{◌≡◌, ◌≢◌, ℕ, ◌%◌, ℤ, negsuc, ◌≤ℤ◌, true, List, [], ◌++◌, codes, take};
+ghost use Rattle.std.specs.Int.{w64, from_be_bytes};
+ghost use Rattle.dcm_uid.specs.Hmac.{hmac_sha256};
 ghost use Rattle.dcm_uid.specs.Uid.{IsNewUid, is_one_uid, new_uid};
 ghost use Rattle.dcm_uid.specs.Pseudonym.{DAYS, IsPseudonym, PSEUDONYM, days, message, patient, pseudonym};
 
@@ -22,11 +24,12 @@ pub fn messages_differ()
     ensures no_uids { (name patient b : List ℕ) → is_one_uid b ≡ true → message name patient ≢ b }
 {}
 
-/// The days by which dates of a patient are moved are a function of the key and of the patient: 1 to 3,652 days into
-/// the past.
+/// The days by which dates of a patient are moved are 1 to 3,652 days into the past. There is one more of them than is
+/// left of a number that is divided by 3,652: of the first eight bytes, the highest one first, of the HMAC-SHA-256 of
+/// `days\` and the patient, under the key.
 pub fn one_patient_one_move()
-    ensures agree { (key one other : List ℕ) → patient one ≡ patient other → days key (patient one) ≡ days key
-        (patient other) }
+    ensures by_code { (key patient : List ℕ) → days key patient ≡ negsuc (from_be_bytes w64 (take 8 (hmac_sha256 key
+        (codes "days\\" ++ patient))) % 3652) }
     ensures past { (key patient : List ℕ) → days key patient ≤ℤ negsuc 0 }
     ensures within { (key patient : List ℕ) → negsuc 3651 ≤ℤ days key patient }
 {}

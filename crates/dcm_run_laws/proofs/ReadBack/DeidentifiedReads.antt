@@ -1,5 +1,5 @@
 -- Files that dcmdeid wrote are read again.
-use Rattle.std.proofs.Common.{◌≡◌, ◌∙◌, ap, sym, subst, refl, ℕ, ◌+◌, ◌≤◌, List, ◌++◌, Bool, length, drop, None, arith, false, Option}
+use Rattle.std.proofs.Common.{◌≡◌, ◌∙◌, ap, sym, subst, refl, ℕ, ◌+◌, ◌≤◌, List, ◌++◌, Bool, length, drop, None, arith, false, Option, ◌⊎◌, inl, inr}
 use Rattle.dcm_base.specs.declared.dictionary.Dictionary.{Dictionary}
 use Rattle.dcm_base.specs.declared.dictionary.Dictionary.TheVariants.{Standard}
 use Rattle.dcm_base.specs.declared.mode.Mode.TheVariants.{Full}
@@ -14,7 +14,7 @@ use Rattle.dcm_base.specs.File.MetaReads.{Meta, MetaReads, PREFIX, begins}
 use Rattle.dcm_base.specs.Reading.Bars.{target_bar}
 use Rattle.dcm_base.specs.Reading.Reads.{INPUT_LIMIT, Reads}
 use Rattle.dcm_base.specs.Reading.Stop.{Stop, complete}
-use Rattle.dcm_base.specs.Tables.Syntax.{coding_by, dictionary_of, read_by}
+use Rattle.dcm_base.specs.Tables.Syntax.{coding_by, dictionary_of, is_big, read_by}
 use Rattle.dcm_base.specs.Tree.Front.{Front}
 use Rattle.dcm_base.specs.Tree.Tree.{Trees}
 use Rattle.dcm_base.proofs.Conversions.NormalForm.{own_dictionary}
@@ -32,7 +32,7 @@ use Rattle.dcm_deid.proofs.Trees.Said.{of_whole, set_with_all}
 use Rattle.dcm_deid_laws.specs.Clean.{NothingIsLeft}
 use Rattle.dcm_deid_laws.specs.Taken.{Takes}
 use Rattle.dcm_deid_laws.proofs.Heads.{left_group}
-use Rattle.dcm_deid_laws.proofs.Instance.{all_left_names, head_again}
+use Rattle.dcm_deid_laws.proofs.Instance.{big_by, head_again, written_names}
 use Rattle.dcm_deid_laws.proofs.ReadsAgain as laws
 use Rattle.dcm_words.specs.Words.{deidentify, dump}
 use Rattle.dcm_cli.specs.Answer.{Answer, FileReads, HeadIs, Source, answer, file, opened, set_at, written_file}
@@ -126,9 +126,9 @@ module _ (options : Options) (reports : Bool) (key input : List ℕ) (a : Answer
       subst (OfWholeFile (λ s set. NothingIsLeft options key set)) (sym one) (refl, clean)
 
   -- the instance that it names in its head and in its data set
-  pub instance_agrees : options.uids ≡ false → instance_of_head m ≡ instance_of_set (whole_of f) → (n : Meta) (c : Coding) (set : Front) (stop : Stop) → FileReads (dump Standard Full None) a.output (file n c set stop)
+  pub instance_agrees : (options.uids ≡ false) ⊎ (is_big s ≡ false) → instance_of_head m ≡ instance_of_set (whole_of f) → (n : Meta) (c : Coding) (set : Front) (stop : Stop) → FileReads (dump Standard Full None) a.output (file n c set stop)
       → instance_of_head n ≡ instance_of_set (whole_of set)
-  instance_agrees new same n c set stop there =
+  instance_agrees either same n c set stop there =
       let r = deidentified_reads Standard in
       let w = laws.was_ready options key s (set_at group) f takes in
       let by : Syntax = read_by Standard s in
@@ -144,6 +144,10 @@ module _ (options : Options) (reports : Bool) (key input : List ℕ) (a : Answer
       uids_agree options key m reached w.trees (same ∙ ap (λ (g : Front). instance_of_set (whole_of g)) w.is) ∙ ap (λ (g : Front). instance_of_set (whole_of g)) (of_whole options (made_new options key) reached w.trees)
       in
       ap instance_of_head metas ∙ head_again m.uid head.elements ∙ in_head
-      ∙ sym (all_left_names options key new by w.trees)
+      ∙ sym (written_names options key by w.trees (in_target either))
       ∙ sym (ap (λ (g : Front). instance_of_set (whole_of (normal_front by g))) (laws.left_is options key s (set_at group) f takes w.trees w.is))
       ∙ sym (ap (λ (g : Front). instance_of_set (whole_of g)) sets)
+    where
+      in_target : (options.uids ≡ false) ⊎ (is_big s ≡ false) → (options.uids ≡ false) ⊎ (is_big (read_by Standard s) ≡ false)
+      in_target (inl new) = inl new
+      in_target (inr little) = inr (big_by Standard s ∙ little)
