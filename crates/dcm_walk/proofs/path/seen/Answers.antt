@@ -1,7 +1,7 @@
 use Rattle.std.proofs.Common.{◌∙◌, subst, List, ℕ, Err}
 use Rattle.dcm_files.specs.declared.folders.Links.TheVariants.{Kept}
 use Rattle.dcm_walk.specs.Folder.{not_looked}
-use Rattle.dcm_walk.proofs.folder.seen.Goals as goal
+use Rattle.dcm_walk.proofs.path.seen.Goals as goal
 
 pub returns-in-Err : goal.returns-in-Err
 returns-in-Err g c =

@@ -1,6 +1,6 @@
 use Rattle.std.proofs.Common.{◌∙◌, subst, List, ℕ, Err}
 use Rattle.dcm_walk.specs.Folder.{not_there}
-use Rattle.dcm_walk.proofs.folder.opened.Goals as goal
+use Rattle.dcm_walk.proofs.path.opened.Goals as goal
 
 pub returns-in-Err : goal.returns-in-Err
 returns-in-Err g c =

@@ -2,7 +2,7 @@ use Rattle.std.proofs.Common.{◌≡◌, ◌∙◌, ap, List, ℕ, drop, take, a
 use Rattle.dcm_names.proofs.Kept.{first_bytes}
 use Rattle.dcm_walk.specs.Folder.{named_at}
 use Rattle.dcm_walk.specs.Visits.{Named}
-use Rattle.dcm_walk.proofs.folder.named_at.Goals as goal
+use Rattle.dcm_walk.proofs.path.named_at.Goals as goal
 
 abbrev by_name : (path name : List ℕ) → Named
 by_name path name = record { name = name; relative = name; path = path }
