@@ -85,6 +85,7 @@ TABLE_COLUMNS = "PatientID", "Modality"
 TREE_FILES, SLICE_PIXELS = 3_000, (30_000, 500_000)
 SMALL_FILES, SMALL_PIXELS = 10_000, (100, 900)
 FEW_FILES, PARTS = 100, 4
+DEEP_FOLDERS = 64
 FILES_OF_A_FOLDER = 100
 SHARED_MEMORY = "/dev/shm"
 
@@ -719,6 +720,18 @@ def make_tree(top, name, files, sizes):
     return Tree(folder, paths, key, os.path.join(top, "out"))
 
 
+def make_deep_tree(top, name):
+    """Folders one in another, with a file in each."""
+    folder, paths = os.path.join(top, name), []
+    within = folder
+    for number in range(DEEP_FOLDERS):
+        os.mkdir(within)
+        paths.append(os.path.join(within, "f.dcm"))
+        make_tree_file(paths[-1], number, bytes(SMALL_PIXELS[0]))
+        within = os.path.join(within, "d")
+    return Tree(folder, paths, os.path.join(top, "key"), os.path.join(top, "out"))
+
+
 def each_alone(words, tree):
     """A loop that calls a tool once a file."""
 
@@ -823,6 +836,10 @@ def print_memory_of_trees(binary, top):
         peak = peak_of([binary, "dcmdeid", "+k", tree.key, "+r", tree.folder, tree.output], os.devnull)
         shutil.rmtree(tree.output)
         rows.append([f"{files:,}", "-" if peak is None else f"{peak:,}"])
+    tree = make_deep_tree(top, "deep")
+    peak = peak_of([binary, "dcmdeid", "+k", tree.key, "+r", tree.folder, tree.output], os.devnull)
+    shutil.rmtree(tree.output)
+    rows.append([f"{DEEP_FOLDERS}, each in a folder within the one before", "-" if peak is None else f"{peak:,}"])
     print_table("Peak resident memory of dcmdeid +k +r", ["Files", "KiB"], rows)
 
 

@@ -8,9 +8,10 @@ Rows and lines are compared in any order, since a system lists a folder in any. 
 have TEXT:
 
 - CASES: what is there, the words, rows, lines, status, and all that is left, bytes and modes.
-- Rights (as nobody, where this runs as root), a disk that gets full, one without hard links (a mount is not tried: strace refuses the
+- A deep tree under the stack that PROFILE names, rights (as nobody, where this runs as root), a disk that gets full, one without hard links (a mount is not tried: strace refuses the
   links), and OUTPUT mounted within FOLDER (by unshare -m).
-- Parts one after another against one run; runs of one part at once, and four parts at once (--rounds of each: 5, and 50 with --long).
+- Parts one after another against one run; runs of one part at once, four parts at once, and two that come to each instance at once
+  (--rounds of each: 5, and 50 with --long).
 - Runs that are killed at a random moment, whose part is removed, and that go on (--kills of them, 200).
 - With --faults: each system call of runs over twelve files fails in turn, by strace. After each fault every name in OUTPUT is whole,
   nothing else is changed, and no part is left but where removing failed.
@@ -287,6 +288,9 @@ ODD_LINES = [b'a"b, c', b"\xc3\xa9\\5c", b"=1", b"-x", b"@y", b" ", b"new\\0alin
 DEEP = b"d/" * 62 + b"d"
 FAR = (b"x" * 200 + b"/") * 20
 PARTS = (b".part.1", b".part.x", b".PART.1")
+
+# names of 4,222 bytes: their first 4,096 are of the first and of the second of two parts, and all of their bytes of the other
+OF_FIRST, OF_SECOND = FAR + b"a" + b"b" * 199 + b"a", FAR + b"a" * 201
 IN_THE_WAY = (b"a", b"b/c", b"d/e", b"f")
 EDITS = "dcmodify -m PatientID=7 -ea PatientName -m Rows=2"
 
@@ -375,6 +379,10 @@ CASES = [
     Case("the first of two parts", HALVES, "dcmconv +part 1/2 +r in out", written(b"a", b"x/b"), after={b"out/a": CONVERTED, b"out/x/b": CONVERTED}),
     Case("the second", {**HALVES, b"out/a": CONVERTED}, "dcmconv +r in +part 02/2 out", not_done(b"refused", b"b") + not_done(b"left-out", b"l"), (b"b: " + ENDS_EARLY, b"l: no regular file"), 4),
     Case("the last +part counts", copies(HASHED), "dcmconv +part 1/9 +r +part 3/5 in out", written(b"b", b"\xc3\xa9"), after=copies((b"b", b"\xc3\xa9"), CONVERTED, b"out/")),
+    Case("the first part, by the first bytes of long names", copies((b"a", OF_FIRST, OF_SECOND)), "dcmconv +part 1/2 +r in out",
+         written(b"a") + not_done(b"left-out", OF_FIRST[:4096]), told(b"name does not fit", OF_FIRST[:4096]), 4, {b"out/a": CONVERTED}),
+    Case("the second, by the first bytes of long names", copies((b"a", OF_FIRST, OF_SECOND)), "dcmconv +part 2/2 +r in out",
+         not_done(b"left-out", OF_SECOND[:4096]), told(b"name does not fit", OF_SECOND[:4096]), 4, {b"out": None}),
     Case("a part without names", HALVES, "dcmconv +part 9999/9999 +r in out", after={b"out": None}),
     # lists
     Case("a list", LIST_FOLDER, "dcmconv +r @list out",
@@ -467,6 +475,31 @@ def try_case(room, case):
     before = files_of(folder)
     done = room.run(case.words, folder, stdin=case.stdin, umask=case.umask, is_full=case.is_full)
     return wrong_run(case, done) + differences_of_trees(room.left(before, case.after), files_of(folder))
+
+
+# ---- the stack
+
+
+# what PROFILE says that a run over a tree needs at most, in KB
+STACK = 900
+
+DEEP_NAMES = [b"d/" * depth + b"a" for depth in range(64)]
+DEEP_INSTANCES = {name: instance(b"1.2", b"1.3", b"1.%d" % depth) for depth, name in enumerate(DEEP_NAMES)}
+
+
+def deep_tree(room):
+    """64 folders, one in another, with a file in each."""
+    around = ["sh", "-c", f'ulimit -s {STACK} && exec "$@"', "sh"]
+    wrong = []
+    for tool in ("dcmconv +te", "dcmodify -ea PatientName", "dcmdeid +ru +kn", "dcmdeid +ru"):
+        folder = room.folder({b"in/" + name: content for name, content in DEEP_INSTANCES.items()})
+        before = files_of(folder)
+        done = room.run(f"{tool} +r in out", folder, around=around)
+        outputs = {name: b"1.2/1.3/1.%d.dcm" % depth if tool == "dcmdeid +ru" else name for depth, name in enumerate(DEEP_NAMES)}
+        after = {b"out/" + outputs[name]: Alone(tool.replace(" +kn", ""), content) for name, content in DEEP_INSTANCES.items()}
+        case = Case("", {}, "", by_identifiers(*outputs.items()))
+        wrong += [f"{tool}: {text}" for text in wrong_run(case, done) + differences_of_trees(room.left(before, after), files_of(folder))]
+    return wrong
 
 
 # ---- rights, disks and mounts
@@ -635,9 +668,9 @@ def parts_of_lists(room):
     return difference("rows", *rows) + differences_of_trees(files_of(wanted), files_of(found)) + difference("statuses", [0], sorted({run.returncode for run in (whole, *parts)}))
 
 
-def ended_at_once(room, commands):
+def ended_at_once(room, commands, tree=None):
     """The folder after runs that are started at once, and how each ended: status, rows, lines."""
-    folder = room.folder(MANY)
+    folder = room.folder(tree or MANY)
     started = [room.start(words, folder) for words in commands]
     ends = []
     for process in started:
@@ -662,6 +695,25 @@ def four_at_once(room):
     folder, ends = ended_at_once(room, [f"dcmconv +part {part}/4 +r in out" for part in (1, 2, 3, 4)])
     wrong = differences_of_trees(files, files_of(folder)) + difference("rows", rows, sorted(row for end in ends for row in end[1]))
     return wrong + difference("status", status, max(end[0] for end in ends))
+
+
+# two files of each instance, whose names differ in one bit, the lowest of the hash, so that they are of different parts of two
+PAIRS = {b"in/%d/%s" % (number, name): instance(b"1.2", b"1.3", b"1.%d" % number) for number in range(60) for name in (b"a", b"b")}
+
+
+def one_instance_at_once(room):
+    """Two parts that come to each instance at once: one writes it, the other finds it there."""
+    folder, ends = ended_at_once(room, [f"dcmdeid +ru +part {part}/2 +r in out" for part in (1, 2)], PAIRS)
+    outputs = {b"1.2/1.3/1.%d.dcm" % number: instance(b"1.2", b"1.3", b"1.%d" % number) for number in range(60)}
+    after = {b"out/" + name: Alone("dcmdeid +ru", content) for name, content in outputs.items()}
+    made = {path: (content, PLAIN_MODE) for path, content in PAIRS.items()}
+    before = {**made, **{b"/".join(path.split(b"/")[:count]): None for path in PAIRS for count in (1, 2)}}
+    wrong = differences_of_trees(room.left(before, after), files_of(folder))
+    rows = [row for end in ends for row in end[1]]
+    for word in ("written", "there"):
+        wrong += difference(word, sorted(map(bytes.decode, outputs)), sorted(row[1] for row in rows if row[2] == word))
+    wrong += difference("names", sorted(path[3:].decode() for path in PAIRS), sorted(row[0] for row in rows))
+    return wrong + difference("statuses", [0, 0], [end[0] for end in ends]) + difference("lines", [b"", b""], [end[2] for end in ends])
 
 
 # ---- runs that are killed
@@ -704,10 +756,13 @@ def try_kills(room, count):
 
 TWELVE = {b"in/%s%d" % (folder, n): NAME[:-6] + b"N%05d" % n for n, folder in enumerate((b"", b"", b"a/", b"a/", b"a/b/", b"c/") * 2)}
 MIXED = {**TWELVE, b"in/a/cut": CUT, b"in/DICOMDIR": NAME, b"in/l": Link(b"cut")}
+IDENTIFIED = {b"in/%s%d" % (folder, number): instance(b"1.2", b"1.3", b"1.%d" % number) for number, folder in enumerate((b"", b"a/", b"", b"b/"))}
 FAULTY_RUNS = (
     ("+r", TWELVE, "dcmconv +r in out"),
     ("+c", {**MIXED, b"out/0": (b"old", 0o600), b"out/a/2": b"older"}, "dcmodify -m PatientName=X +c +v +r in out"),
     ("+part", {**MIXED, b"out/.part.1": b"another's"}, "dcmconv +part 2/2 +r in out"),
+    ("identifiers", {**IDENTIFIED, b"in/copy": IDENTIFIED[b"in/0"], b"in/cut": CUT, b"out/1.2/1.3/1.2.dcm": Alone("dcmdeid +ru", IDENTIFIED[b"in/2"])},
+     "dcmdeid +ru +c +r in out"),
     ("a list", {**MIXED, b"list": b"".join(path + b"\n" for path in MIXED)}, "dcmconv +r @list out"),
 )
 KNOWN_LINE = re.compile(
@@ -824,10 +879,13 @@ class Report:
 
 
 OF_SYSTEMS = (
+    ("a deep tree", deep_tree),
     ("rights of nobody", without_rights), ("no rights at all", no_rights_at_all), ("a full disk", full_disk), ("a disk without room for names", no_more_files),
     ("no hard links", without_links), ("OUTPUT mounted within FOLDER", mounted_within), ("parts in turn", parts_in_turn), ("parts of lists", parts_of_lists),
 )
-AT_ONCE = (("two runs of one part at once", twice_at_once), ("four parts at once", four_at_once))
+AT_ONCE = (
+    ("two runs of one part at once", twice_at_once), ("four parts at once", four_at_once), ("two parts at one instance at once", one_instance_at_once),
+)
 
 
 def try_all(room, words):

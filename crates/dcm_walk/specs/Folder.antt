@@ -18,9 +18,13 @@ use Rattle.dcm_walk.specs.Visits.{Named, Step, Visits}
 
 -- ---- a name, before it is looked at
 
--- the name at a path, which begins after the path of the first folder
+-- the name at a path, which begins after the path of the first folder, or its first bytes
 abbrev pub named_at : (base : ℕ) → (path : List ℕ) → Named
-named_at base path = record { name = take NAME_LIMIT (drop base path); relative = drop base path; path = path }
+named_at base path = record {
+  name = take NAME_LIMIT (drop base path);
+  relative = take NAME_LIMIT (drop base path);
+  path = path;
+}
 
 abbrev pub is_unfit : Named → Bool
 is_unfit n = nat_lt PATH_LIMIT (length n.path) || not (leads_below n.relative)
@@ -112,6 +116,32 @@ pub data DoesNames {V S O F : Type 0} (d : FoldersDo S O F) (Entry : List ℕ �
   was_stopped : (count : ℕ) (name : List ℕ) (e : Stopped) (at : F) (mid : V) (listed given : S)
       → Listed d Entry from before folder count mid listed at → d.names listed at (Ok (Some name)) left given
       → Entry name mid given (Err e) to after → r ≡ Err e → DoesNames d Entry folder left from before r to after
+
+-- a folder is given back, where one is open
+abbrev pub Closes : {S O F : Type 0} → FoldersDo S O F → Option F → (before after : S) → Type 0
+Closes d None before after = after ≡ before
+Closes d (Some folder) before after = d.closes_folder before folder after
+
+-- an open folder is listed, and given back
+pub record Lists {V S O F : Type 0} (d : FoldersDo S O F) (Entry : List ℕ → Step V S) (folder : F) (from : V)
+    (before : S) (r : Result Bool Stopped) (to : V) (after : S) : Type 0 where
+  pub left : F
+  pub listed : S
+  pub names : DoesNames d Entry folder left from before r to listed
+  pub closes : d.closes_folder listed left after
+
+-- a folder that could not be opened
+pub record IsUnlisted {V S : Type 0} (from : V) (before : S) (r : Result Bool Stopped) (to : V) (after : S)
+    : Type 0 where
+  pub answers : r ≡ Ok false
+  pub visits_none : to ≡ from
+  pub stays : after ≡ before
+
+-- the names of a folder that was opened, or could not be
+abbrev pub DoesOpened : {V S O F : Type 0} → FoldersDo S O F → (Entry : List ℕ → Step V S) → Option F → (from : V)
+    → (before : S) → Result Bool Stopped → (to : V) → (after : S) → Type 0
+DoesOpened d Entry None from before r to after = IsUnlisted from before r to after
+DoesOpened d Entry (Some folder) from before r to after = Lists d Entry folder from before r to after
 
 -- an open folder is listed, and given back; where that failed, it is visited itself
 pub data DoesFolder {V S O F : Type 0} (d : FoldersDo S O F) (visits : Visits V S) (Entry : List ℕ → Step V S)

@@ -1,14 +1,12 @@
 // The walk of a folder.
 ghost use Rattle.std.specs.Prelude.{◌≡◌, ◌≤◌, ◌+◌, length, codes};
-ghost use Rattle.std.specs.Str.{IsUtf8};
+ghost use Rattle.arrayvec.specs.ArrayVec.{array_vec_len};
 ghost use Rattle.dcm_walk.specs.Folder as spec;
-ghost use Rattle.dcm_walk.specs.Visits.{name_of};
 
-use crate::name::{MOST_OF_PATH, below, is_part_file, leads_below};
+use crate::name::{LongPath, go_below};
+use crate::path::{close, judge, named_at, open_at, seen};
 use crate::visitor::{Named, Stopped, Visitor, What};
-use dcm_files::{EntryName, Folders, Found, FoundKind, Links};
-use dcm_names::MOST_OF_NAME;
-use std::str;
+use dcm_files::{EntryName, Folders, Found, FoundKind};
 
 /// The most folders that are open within the first.
 const LEVELS: usize = 63;
@@ -29,66 +27,28 @@ pub struct Walk {
     pub output: FolderNumber,
 }
 
-/// The name at a path.
-fn named_at(base: usize, path: &[u8]) -> Named<'_>
-    requires { base ≤ length path.now }
-    ensures { name_of result ≡ spec.named_at base path.now }
-{
-    let (_, relative) = path.split_at(base);
-    let (name, _) = relative.split_at(relative.len().min(MOST_OF_NAME));
-    Named {
-        name,
-        relative,
-        path,
-    }
+/// Where a walk is. It is shared by all folders that are open, so that each of them takes little more of the stack than
+/// its names that were listed and not yet done.
+#[derive(Drop)]
+struct Trail {
+    /// The path of the folder whose names are done, or of the name that is.
+    path: LongPath,
+    /// The name in a folder that was listed last.
+    entry: EntryName,
 }
 
-/// Why a name cannot be looked at, or none where it can.
-pub(crate) fn judge(named: &Named) -> Option<What>
-    ensures { spec.Judges (name_of named.now) result }
-{
-    if named.path.len() > MOST_OF_PATH || !leads_below(named.relative) {
-        return Some(What::Unfit);
-    }
-    if str::from_utf8(named.path).is_err() {
-        return Some(What::NoText);
-    }
-    if is_part_file(named.relative) {
-        return Some(What::PartFile);
-    }
-    None
-}
-
-/// The text of a path that is one.
-pub(crate) fn text(path: &[u8]) -> &str
-    requires { IsUtf8 path.now }
-    ensures { result.now ≡ path.now }
-{
-    match str::from_utf8(path) {
-        Ok(text) => text,
-        Err(_) => unreachable!(),
-    }
-}
-
-/// What is at a path, links not followed; none where it cannot be looked at, too.
-fn seen<S: Folders>(system: &mut S, path: &[u8]) -> Option<Found>
-    requires { IsUtf8 path.now }
-    ensures { spec.Sees S.folders_do path.now system.old result system.new }
-{
-    match system.find(text(path), Links::Kept) {
-        Ok(found) => found,
-        Err(_) => None,
-    }
-}
-
-/// The folder at a path, where it can be opened.
-fn opened<S: Folders>(system: &mut S, path: &[u8]) -> Option<S::Folder>
-    requires { IsUtf8 path.now }
-    ensures { spec.Opens S.folders_do path.now system.old result system.new }
-{
-    match system.open_folder(text(path)) {
-        Ok(folder) => Some(folder),
-        Err(_) => None,
+impl Trail {
+    /// At the path of the first folder.
+    fn at(folder: &[u8]) -> Self
+        requires { length folder.now ≤ 4095 }
+        ensures { result.path.items ≡ folder.now }
+    {
+        let mut path = LongPath::new();
+        let _ = path.try_extend_from_slice(folder);
+        Trail {
+            path,
+            entry: EntryName::new(),
+        }
     }
 }
 
@@ -99,27 +59,46 @@ pub(crate) fn is_output(output: FolderNumber, found: Found) -> bool
     found.device == output.device && found.number == output.number
 }
 
+/// Visits the name at a path. It is never inlined: what a visit takes of the stack is taken once, and not for each folder
+/// that is open.
+#[inline(never)]
+fn visit_at<S: Folders, E, V: Visitor<S, E>>(
+    base: usize,
+    path: &LongPath,
+    what: What,
+    system: &mut S,
+    errors: &mut E,
+    visitor: &mut V,
+) -> Result<(), Stopped>
+    requires { base ≤ array_vec_len path.now }
+    ensures { V.visits (visitor.old, errors.old) system.old (spec.named_at base path.now.items) what result
+        (visitor.new, errors.new) system.new }
+{
+    visitor.visit(system, errors, named_at(base, path), what)
+}
+
 /// Does the names of an open folder, within which so many may be open. Answers whether they were listed to the end.
 #[cycle(entering)]
 fn do_names<S: Folders, E, V: Visitor<S, E>>(
     walk: Walk,
     levels: usize,
-    path: &[u8],
+    trail: &mut Trail,
     folder: &mut S::Folder,
     system: &mut S,
     errors: &mut E,
     visitor: &mut V,
 ) -> Result<bool, Stopped>
-    requires path { length path.now ≤ 4095 }
-    requires base { walk.base ≤ length path.now + 1 }
-    ensures { spec.DoesNames S.folders_do (spec.EntryAt S.folders_do V.visits walk levels path.now) folder.old
-        folder.new (visitor.old, errors.old) system.old result (visitor.new, errors.new) system.new }
+    requires path { array_vec_len trail.old.path ≤ 4095 }
+    requires base { walk.base ≤ array_vec_len trail.old.path + 1 }
+    ensures does { spec.DoesNames S.folders_do
+        (spec.EntryAt S.folders_do V.visits walk levels trail.old.path.items) folder.old folder.new
+        (visitor.old, errors.old) system.old result (visitor.new, errors.new) system.new }
+    ensures path { trail.new.path.items ≡ trail.old.path.items }
 {
-    let mut name = EntryName::new();
     let mut count: u64 = 0;
     while count < u64::MAX {
-        match system.next_name(folder, &mut name) {
-            Ok(true) => do_entry(walk, levels, path, name.as_slice(), system, errors, visitor)?,
+        match system.next_name(folder, &mut trail.entry) {
+            Ok(true) => do_entry(walk, levels, trail, system, errors, visitor)?,
             Ok(false) => return Ok(true),
             Err(_) => return Ok(false),
         }
@@ -128,39 +107,31 @@ fn do_names<S: Folders, E, V: Visitor<S, E>>(
     Ok(false)
 }
 
-/// Does a folder that is open, within which so many may be open, and gives it back.
+/// Does the names of a folder that was opened, within which so many may be open, and gives it back. Answers whether they
+/// were listed to the end; not of one that could not be opened.
 #[cycle(entering)]
-fn do_folder<S: Folders, E, V: Visitor<S, E>>(
+fn do_opened<S: Folders, E, V: Visitor<S, E>>(
     walk: Walk,
     levels: usize,
-    named: Named,
-    folder: S::Folder,
+    trail: &mut Trail,
+    folder: &mut Option<S::Folder>,
     system: &mut S,
     errors: &mut E,
     visitor: &mut V,
-) -> Result<(), Stopped>
-    requires path { length named.path.now ≤ 4095 }
-    requires base { walk.base ≤ length named.path.now + 1 }
-    ensures { spec.DoesFolder S.folders_do V.visits
-        (spec.EntryAt S.folders_do V.visits walk levels named.entry.path.now) (name_of named.entry) folder
-        (visitor.old, errors.old) system.old result (visitor.new, errors.new) system.new }
+) -> Result<bool, Stopped>
+    requires path { array_vec_len trail.old.path ≤ 4095 }
+    requires base { walk.base ≤ array_vec_len trail.old.path + 1 }
+    ensures does { spec.DoesOpened S.folders_do
+        (spec.EntryAt S.folders_do V.visits walk levels trail.old.path.items) folder.old (visitor.old, errors.old)
+        system.old result (visitor.new, errors.new) system.new }
+    ensures path { trail.new.path.items ≡ trail.old.path.items }
 {
-    let mut folder = folder;
-    let ended = do_names(
-        walk,
-        levels,
-        named.path,
-        &mut folder,
-        system,
-        errors,
-        visitor,
-    );
-    system.close_folder(folder);
-    match ended {
-        Ok(true) => Ok(()),
-        Ok(false) => visitor.visit(system, errors, named, What::Unlisted),
-        Err(stopped) => Err(stopped),
-    }
+    let Some(open) = folder else {
+        return Ok(false);
+    };
+    let ended = do_names(walk, levels, trail, open, system, errors, visitor);
+    close(folder, system);
+    ended
 }
 
 /// Enters a folder within which so many may be open, where that may be, and else visits it.
@@ -169,26 +140,60 @@ fn enter<S: Folders, E, V: Visitor<S, E>>(
     walk: Walk,
     levels: usize,
     found: Found,
-    named: Named,
+    trail: &mut Trail,
     system: &mut S,
     errors: &mut E,
     visitor: &mut V,
 ) -> Result<(), Stopped>
-    requires fit { spec.IsFit (name_of named) }
-    requires base { walk.base ≤ length named.path.now + 1 }
-    ensures { spec.EntersAt S.folders_do V.visits walk levels found (name_of named.entry) (visitor.old, errors.old)
-        system.old result (visitor.new, errors.new) system.new }
+    requires fit { spec.IsFit (spec.named_at walk.base trail.old.path.items) }
+    requires base { walk.base ≤ array_vec_len trail.old.path }
+    ensures does { spec.EntersAt S.folders_do V.visits walk levels found
+        (spec.named_at walk.base trail.old.path.items) (visitor.old, errors.old) system.old result
+        (visitor.new, errors.new) system.new }
+    ensures path { trail.new.path.items ≡ trail.old.path.items }
 {
     if levels == 0 {
-        return visitor.visit(system, errors, named, What::TooDeep);
+        return visit_at(
+            walk.base,
+            &trail.path,
+            What::TooDeep,
+            system,
+            errors,
+            visitor,
+        );
     }
     if is_output(walk.output, found) {
-        return visitor.visit(system, errors, named, What::OfOutput);
+        return visit_at(
+            walk.base,
+            &trail.path,
+            What::OfOutput,
+            system,
+            errors,
+            visitor,
+        );
     }
-    match opened(system, named.path) {
-        Some(folder) => do_folder(walk, levels - 1, named, folder, system, errors, visitor),
-        None => visitor.visit(system, errors, named, What::Unlisted),
+    let mut folder = None;
+    open_at(&trail.path, &mut folder, system);
+    let is_whole = do_opened(
+        walk,
+        levels - 1,
+        trail,
+        &mut folder,
+        system,
+        errors,
+        visitor,
+    )?;
+    if is_whole {
+        return Ok(());
     }
+    visit_at(
+        walk.base,
+        &trail.path,
+        What::Unlisted,
+        system,
+        errors,
+        visitor,
+    )
 }
 
 /// Does a name that can be looked at.
@@ -196,49 +201,88 @@ fn enter<S: Folders, E, V: Visitor<S, E>>(
 fn do_fit<S: Folders, E, V: Visitor<S, E>>(
     walk: Walk,
     levels: usize,
-    named: Named,
+    trail: &mut Trail,
     system: &mut S,
     errors: &mut E,
     visitor: &mut V,
 ) -> Result<(), Stopped>
-    requires fit { spec.IsFit (name_of named) }
-    requires base { walk.base ≤ length named.path.now + 1 }
-    ensures { spec.DoesNamed S.folders_do V.visits (spec.EntersAt S.folders_do V.visits walk levels)
-        (name_of named.entry) (visitor.old, errors.old) system.old result (visitor.new, errors.new) system.new }
+    requires fit { spec.IsFit (spec.named_at walk.base trail.old.path.items) }
+    requires base { walk.base ≤ array_vec_len trail.old.path }
+    ensures does { spec.DoesNamed S.folders_do V.visits (spec.EntersAt S.folders_do V.visits walk levels)
+        (spec.named_at walk.base trail.old.path.items) (visitor.old, errors.old) system.old result
+        (visitor.new, errors.new) system.new }
+    ensures path { trail.new.path.items ≡ trail.old.path.items }
 {
-    let Some(found) = seen(system, named.path) else {
-        return visitor.visit(system, errors, named, What::Unseen);
+    let Some(found) = seen(&trail.path, system) else {
+        return visit_at(
+            walk.base,
+            &trail.path,
+            What::Unseen,
+            system,
+            errors,
+            visitor,
+        );
     };
     match found.kind {
-        FoundKind::Folder => enter(walk, levels, found, named, system, errors, visitor),
-        FoundKind::File => visitor.visit(system, errors, named, What::File { mode: found.mode }),
-        FoundKind::Other => visitor.visit(system, errors, named, What::NoFile),
+        FoundKind::Folder => enter(walk, levels, found, trail, system, errors, visitor),
+        FoundKind::File => {
+            let what = What::File { mode: found.mode };
+            visit_at(walk.base, &trail.path, what, system, errors, visitor)
+        }
+        FoundKind::Other => visit_at(
+            walk.base,
+            &trail.path,
+            What::NoFile,
+            system,
+            errors,
+            visitor,
+        ),
     }
 }
 
-/// Does a name in a folder within which so many may be open.
+/// Does the name at a path, in a folder within which so many may be open.
+#[cycle(entering)]
+fn do_path<S: Folders, E, V: Visitor<S, E>>(
+    walk: Walk,
+    levels: usize,
+    trail: &mut Trail,
+    system: &mut S,
+    errors: &mut E,
+    visitor: &mut V,
+) -> Result<(), Stopped>
+    requires base { walk.base ≤ array_vec_len trail.old.path }
+    ensures does { spec.DoesNamed S.folders_do V.visits (spec.EntersAt S.folders_do V.visits walk levels)
+        (spec.named_at walk.base trail.old.path.items) (visitor.old, errors.old) system.old result
+        (visitor.new, errors.new) system.new }
+    ensures path { trail.new.path.items ≡ trail.old.path.items }
+{
+    match judge(&named_at(walk.base, &trail.path)) {
+        None => do_fit(walk, levels, trail, system, errors, visitor),
+        Some(what) => visit_at(walk.base, &trail.path, what, system, errors, visitor),
+    }
+}
+
+/// Does the name that was listed last, in a folder within which so many may be open.
 #[cycle(entering)]
 fn do_entry<S: Folders, E, V: Visitor<S, E>>(
     walk: Walk,
     levels: usize,
-    folder: &[u8],
-    entry: &[u8],
+    trail: &mut Trail,
     system: &mut S,
     errors: &mut E,
     visitor: &mut V,
 ) -> Result<(), Stopped>
-    requires folder { length folder.now ≤ 4095 }
-    requires entry { length entry.now ≤ 4096 }
-    requires base { walk.base ≤ length folder.now + 1 }
-    ensures { spec.EntryAt S.folders_do V.visits walk levels folder.now entry.now (visitor.old, errors.old) system.old
-        result (visitor.new, errors.new) system.new }
+    requires path { array_vec_len trail.old.path ≤ 4095 }
+    requires base { walk.base ≤ array_vec_len trail.old.path + 1 }
+    ensures does { spec.EntryAt S.folders_do V.visits walk levels trail.old.path.items trail.old.entry.items
+        (visitor.old, errors.old) system.old result (visitor.new, errors.new) system.new }
+    ensures path { trail.new.path.items ≡ trail.old.path.items }
 {
-    let path = below(folder, entry);
-    let named = named_at(walk.base, path.as_slice());
-    match judge(&named) {
-        None => do_fit(walk, levels, named, system, errors, visitor),
-        Some(what) => visitor.visit(system, errors, named, what),
-    }
+    let length = trail.path.len();
+    go_below(&mut trail.path, trail.entry.as_slice());
+    let done = do_path(walk, levels, trail, system, errors, visitor);
+    trail.path.truncate(length);
+    done
 }
 
 /// Goes over the names in a folder that was opened at a path, and enters each folder in it. The folder itself is
@@ -259,10 +303,25 @@ pub fn walk_folder<S: Folders, E, V: Visitor<S, E>>(
         base: path.len() + 1,
         output,
     };
+    let mut trail = Trail::at(path);
+    let mut folder = Some(folder);
+    let ended = do_opened(
+        walk,
+        LEVELS,
+        &mut trail,
+        &mut folder,
+        system,
+        errors,
+        visitor,
+    );
     let named = Named {
         name: b".",
         relative: b".",
         path,
     };
-    do_folder(walk, LEVELS, named, folder, system, errors, visitor)
+    match ended {
+        Ok(true) => Ok(()),
+        Ok(false) => visitor.visit(system, errors, named, What::Unlisted),
+        Err(stopped) => Err(stopped),
+    }
 }

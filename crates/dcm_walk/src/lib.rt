@@ -9,6 +9,7 @@
 mod folder;
 mod list;
 mod name;
+mod path;
 mod visitor;
 
 pub use folder::{FolderNumber, walk_folder};

@@ -4,7 +4,8 @@ ghost use Rattle.std.specs.Str.{IsUtf8};
 ghost use Rattle.dcm_walk.specs.List as spec;
 ghost use Rattle.dcm_walk.specs.Visits.{name_of};
 
-use crate::folder::{FolderNumber, is_output, judge};
+use crate::folder::{FolderNumber, is_output};
+use crate::path::judge;
 use crate::visitor::{Named, Stopped, Visitor, What};
 use dcm_devices::Watched;
 use dcm_files::{Folders, Found, FoundKind, Links};

@@ -1,5 +1,6 @@
 // Names and paths.
-ghost use Rattle.std.specs.Prelude.{◌≡◌, ◌≤◌, ◌++◌, length, IfOk, IfErr};
+ghost use Rattle.std.specs.Prelude.{◌≡◌, ◌≤◌, length};
+ghost use Rattle.arrayvec.specs.ArrayVec.{array_vec_len};
 ghost use Rattle.dcm_walk.specs.Names as spec;
 
 use arrayvec::ArrayVec;
@@ -11,6 +12,9 @@ pub const MOST_OF_PATH: usize = 4095;
 /// The most bytes of a path that is put together: that of a folder, a slash and a name in it.
 pub const LONGEST: usize = MOST_OF_PATH + 1 + MOST_OF_ENTRY;
 
+/// A path that is put together.
+pub(crate) type LongPath = ArrayVec<u8, LONGEST>;
+
 /// What the name of a part file begins with, before the number of its run. Names of inputs may not begin so, in capitals
 /// or not.
 pub const PART: &[u8] = b".part.";
@@ -18,17 +22,14 @@ pub const PART: &[u8] = b".part.";
 /// What ends a part of a name.
 const SLASH: u8 = b'/';
 
-/// The path of a name in a folder.
-pub(crate) fn below(folder: &[u8], entry: &[u8]) -> ArrayVec<u8, LONGEST>
-    requires folder { length folder.now ≤ 4095 }
+/// Puts a slash and a name behind the path of the folder that it is in.
+pub(crate) fn go_below(path: &mut LongPath, entry: &[u8])
+    requires folder { array_vec_len path.old ≤ 4095 }
     requires entry { length entry.now ≤ 4096 }
-    ensures { result.items ≡ spec.below folder.now entry.now }
+    ensures { path.new.items ≡ spec.below path.old.items entry.now }
 {
-    let mut path = ArrayVec::new();
-    let _ = path.try_extend_from_slice(folder);
     path.push(SLASH);
     let _ = path.try_extend_from_slice(entry);
-    path
 }
 
 /// Whether a part of a name begins here, and is neither empty nor `.` nor `..`.

@@ -29,7 +29,8 @@ pub enum What {
 pub struct Named<'a> {
     /// The name, or its first 4,096 bytes.
     pub name: &'a [u8],
-    /// What its output is named after.
+    /// What its output is named after, and what a share of the names is chosen by: the name without a `./` at its front,
+    /// or that of its first 4,096 bytes.
     pub relative: &'a [u8],
     /// Where it lies.
     pub path: &'a [u8],

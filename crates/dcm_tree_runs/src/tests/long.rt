@@ -142,6 +142,39 @@ fn long_paths(rt: HostRuntime) -> Result<(), Fail> {
     expect_line(alloc, "dcmconv +r in out", far_tree(alloc, far)?, &wanted)
 }
 
+/// Two files there whose names have more than 4,096 bytes. The first 4,096 are of part 1 and of part 2 of two, and all
+/// bytes of the names of the other.
+fn parted_tree(alloc: Global, far: &[u8]) -> Result<Tree, AllocError> {
+    let mut tree = Tree::new(alloc)?;
+    let first = joined(alloc, far, b"a")?;
+    let first = repeated(alloc, first.as_slice(), b"b", 199, b"a")?;
+    let second = repeated(alloc, far, b"a", 201, b"")?;
+    put_good(alloc, &mut tree, b"in/", first.as_slice())?;
+    put_good(alloc, &mut tree, b"in/", second.as_slice())?;
+    Ok(tree)
+}
+
+/// Expects that of these files a part leaves out the one of this name, of which it shows the first bytes.
+fn expect_part(alloc: Global, line: &'static str, far: &[u8], shown: &[u8]) -> Result<(), Fail> {
+    let mut tree = parted_tree(alloc, far)?;
+    tree.put(b"out", Node::folder())?;
+    let mut wanted = Answer::leaving(alloc, LEFT_OUT, tree)?;
+    wanted.add_unfit(shown)?;
+    expect_line(alloc, line, parted_tree(alloc, far)?, &wanted)
+}
+
+#[test]
+fn parts_of_long_names(rt: HostRuntime) -> Result<(), Fail> {
+    let alloc = rt.alloc();
+    let far = far(alloc)?;
+    let far = far.as_slice();
+    let first = joined(alloc, far, b"a")?;
+    let first = repeated(alloc, first.as_slice(), b"b", 75, b"")?;
+    let second = repeated(alloc, far, b"a", 76, b"")?;
+    expect_part(alloc, "dcmconv +part 1/2 +r in out", far, first.as_slice())?;
+    expect_part(alloc, "dcmconv +part 2/2 +r in out", far, second.as_slice())
+}
+
 /// A file, and a list of it and of two names that are too long, one by a byte.
 fn listed_tree(alloc: Global) -> Result<Tree, AllocError> {
     let mut list = repeated(alloc, b"", b"y", 4096, b"\n")?;
