@@ -37,7 +37,7 @@ use Rattle.dcm_tree_laws.specs.Laws.{IsOutput, over, part_path}
 use Rattle.dcm_tree_laws.specs.Part.{LeavesPart}
 use Rattle.dcm_tree_laws.specs.Rows.{Visit, noted}
 use Rattle.dcm_tree_laws.specs.Single.{TellsAll}
-use Rattle.dcm_tree_laws.specs.Stays.{IsOfOutput}
+use Rattle.dcm_tree_laws.proofs.Near.{IsNear}
 use Rattle.dcm_tree_laws.proofs.CopyLeft.{leads_by, copy_again, none_other}
 use Rattle.dcm_tree_laws.proofs.CopyMade.{by_name}
 use Rattle.dcm_tree_laws.proofs.Given.{none_some}
@@ -237,7 +237,7 @@ visit_same {I} {O} {F} h r w e m shared start from told_before before n what res
 
 -- how they are done
 record Goes {I O : Type 0} (h : Host I O) (w : Writer O) (start : Tree) (k : Manner) : Type 0 where
-  of_output : IsOfOutput k.output k.part
+  of_output : IsNear k.output k.part
   tells : TellsAll h w
   by : k.keeps_names ≡ false
   text : IsUtf8 k.part

@@ -29,7 +29,7 @@ use Rattle.dcm_tree_laws.specs.FileSystem.{FileSystem, Tree, Host, number_of, pl
 use Rattle.dcm_tree_laws.specs.Laws.{IsOutput, part_path}
 use Rattle.dcm_tree_laws.specs.Rows.{Visit, noted}
 use Rattle.dcm_tree_laws.specs.Single.{TellsAll}
-use Rattle.dcm_tree_laws.specs.Stays.{IsOfOutput, Stays}
+use Rattle.dcm_tree_laws.proofs.Near.{IsNear, Stays}
 use Rattle.dcm_tree_laws.proofs.CopiesBy.{working_quiet, over_visit, apart_by, file_still, written_again}
 use Rattle.dcm_tree_laws.proofs.CopyLeft.{none_other}
 use Rattle.dcm_tree_laws.proofs.CopyMade.{CopyMade, copy_made, copy_made_stays, copy_found}
@@ -49,7 +49,7 @@ use Rattle.dcm_tree_laws.proofs.Working.{whole_gives}
 
 -- how the names of a run are done
 record Goes {I O : Type 0} (h : Host I O) (w : Writer O) (start : Tree) (k : Manner) : Type 0 where
-  of_output : IsOfOutput k.output k.part
+  of_output : IsNear k.output k.part
   tells : TellsAll h w
   by : k.keeps_names ≡ false
   none : at_path h start k.part ≡ None

@@ -29,7 +29,7 @@ use Rattle.dcm_trees.specs.Place.{Looks, AreFolders, LooksAlong, Finds, end_of_w
 use Rattle.dcm_tree_laws.specs.Again.{IsAt, sure}
 use Rattle.dcm_tree_laws.specs.Determined.{FileAt, working_may, working_folders, as_whole, working}
 use Rattle.dcm_tree_laws.specs.FileSystem.{FileSystem, Host, number_of, place_of, may_do, folders_do}
-use Rattle.dcm_tree_laws.specs.Stays.{Stays}
+use Rattle.dcm_tree_laws.proofs.Near.{IsNear, Stays}
 use Rattle.dcm_tree_laws.proofs.CopyLeft.{followed}
 use Rattle.dcm_tree_laws.proofs.Files.{gives_free}
 use Rattle.dcm_tree_laws.proofs.Given.{IsReady, Ready, ready, then_steps}
@@ -225,6 +225,6 @@ module _ {I O E : Type 0} (F : Type 0) (h : Host I O) (r : Reader I) (w : Writer
       (works.finds_copy (working_may h r w (may_do h)) (may_do h) (working_also h r w) (as_whole h r) p.naming m.part path p.named p.same p.compared p.copy) in
       let gone : Steps h IsHeld m.part m.output (whole held) p.named idle after =
       subst (λ (x : FileSystem). Steps h IsHeld m.part m.output (whole held) x idle after) compared
-      (subst (λ (x : Naming). Steps h IsHeld m.part m.output (phase_of held x) p.compared idle after) naming.0 (clears_part {I = I} h IsHeld m.part m.output held p.naming p.compared after
+      (subst (λ (x : Naming). Steps h IsHeld m.part m.output (phase_of held x) p.compared idle after) naming.0 (clears_part {I = I} h IsHeld m.part (IsNear m.output) held p.naming p.compared after
       (works.clears_part (working_may h r w (may_do h)) (may_do h) (working_also h r w) p.naming m.part p.compared after p.clears))) in
       made_stays h IsHeld m.part m.output relative p.named.now after.now (stays_then idle after named gone) made

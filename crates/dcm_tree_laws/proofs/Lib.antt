@@ -6,6 +6,9 @@ pub mod Quiet
 pub mod Walks
 pub mod Lists
 pub mod Ways
+pub mod Near
+pub mod Below
+pub mod Gives
 pub mod Noted
 pub mod Looking
 pub mod Making

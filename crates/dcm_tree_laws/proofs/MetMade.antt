@@ -36,7 +36,7 @@ use Rattle.dcm_tree_laws.specs.Again.{IsAt, sure}
 use Rattle.dcm_tree_laws.specs.Determined.{FileAt, ComesTo, FollowsLinks, as_whole, working, working_may, working_folders}
 use Rattle.dcm_tree_laws.specs.FileSystem.{FileSystem, Tree, Host, number_of, place_of, at_path, may_do, folders_do}
 use Rattle.dcm_tree_laws.specs.Single.{IsJobOf}
-use Rattle.dcm_tree_laws.specs.Stays.{IsOfOutput, Stays}
+use Rattle.dcm_tree_laws.proofs.Near.{IsNear, Stays}
 use Rattle.dcm_tree_laws.proofs.CopyLeft.{followed, no_link}
 use Rattle.dcm_tree_laws.proofs.CopyMade.{CopyMade, NewPart, new_part}
 use Rattle.dcm_tree_laws.proofs.CopyMet.{placed_met}
@@ -98,7 +98,7 @@ named_as relative done items name is rel = ap (name_in relative) is ∙ rel
 
 -- ---- it was there
 
-module _ {I O E : Type 0} (F : Type 0) (h : Host I O) (r : Reader I) (w : Writer O) (e : Writer E) (all : GivesAll h (as_whole h r) w) (m : Manner) (of_output : IsOfOutput m.output m.part) (leads : h.leads Followed m.part ≡ place_of h m.part) (first : Tree) (follows : FollowsLinks h first) where
+module _ {I O E : Type 0} (F : Type 0) (h : Host I O) (r : Reader I) (w : Writer O) (e : Writer E) (all : GivesAll h (as_whole h r) w) (m : Manner) (of_output : IsNear m.output m.part) (leads : h.leads Followed m.part ≡ place_of h m.part) (first : Tree) (follows : FollowsLinks h first) where
   -- the row of a name is elsewhere than the part
   abbrev Elsewhere : (relative : List ℕ) → Done → Type 0
   Elsewhere relative done = place_of h (below m.output (name_in relative done.instance)) ≢ place_of h m.part

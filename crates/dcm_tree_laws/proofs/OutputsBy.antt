@@ -24,7 +24,7 @@ use Rattle.dcm_tree_laws.specs.FileSystem.{FileSystem, Tree, Host, number_of, pl
 use Rattle.dcm_tree_laws.specs.Laws.{IsOutput, over, part_path}
 use Rattle.dcm_tree_laws.specs.Outputs.{HasOutput, HasWritten, WrittenIsThere, WrittenIsThereOfList}
 use Rattle.dcm_tree_laws.specs.Rows.{Visit, noted}
-use Rattle.dcm_tree_laws.specs.Stays.{IsOfOutput, within, Stays}
+use Rattle.dcm_tree_laws.proofs.Near.{IsNear, near, Stays}
 use Rattle.dcm_tree_laws.proofs.Both.{Both}
 use Rattle.dcm_tree_laws.proofs.Forgets.{after_any, with_past}
 use Rattle.dcm_tree_laws.proofs.Lists.{lines_do}
@@ -54,7 +54,7 @@ pub record Leaves {I O : Type 0} (h : Host I O) (part output : List ℕ) (before
   pub stays : Stays h part output before.now after.now
   pub none : after.written ≡ None
 
-pub leaves : {I O : Type 0} (h : Host I O) (IsWhole : ℕ → List ℕ → Type 0) (part output : List ℕ) (before after : FileSystem) → before.written ≡ None → IsOfOutput output part → Steps h IsWhole part output idle before idle after → Leaves h part output before after
+pub leaves : {I O : Type 0} (h : Host I O) (IsWhole : ℕ → List ℕ → Type 0) (part output : List ℕ) (before after : FileSystem) → before.written ≡ None → IsNear output part → Steps h IsWhole part output idle before idle after → Leaves h part output before after
 leaves h IsWhole part output before after none of_output steps =
     let x : (past : _) × Both h IsWhole part output before.now idle (with_past past after) = after_any h IsWhole part output before none of_output idle after steps in
     record { stays = x.1.keeps.stays; none = x.1.keeps.quiet }
@@ -102,11 +102,11 @@ by_shared h Of m headed visits manifest now a b is rows = subst (λ (s : Shared)
 
 -- what is known of a name before it is done, by what it shares with the others
 record Known {I O : Type 0} (h : Host I O) (links : Links) (Of : Visit → ℕ → List ℕ → Type 0) (r : Reader I) (w : Writer O) (start : Tree) (s : FileSystem) (shared : Shared) : Type 0 where
-  of_output : IsOfOutput (manner_of shared.manner).output (manner_of shared.manner).part
+  of_output : IsNear (manner_of shared.manner).output (manner_of shared.manner).part
   right : Right h links Of r w (manner_of shared.manner) start
   still : Still h (manner_of shared.manner).part start s.now
 
-visits_good : {I O F W E : Type 0} (h : Host I O) (links : Links) (Of : Visit → ℕ → List ℕ → Type 0) (start : Tree) (r : Reader I) (w : Writer O) (e : Writer E) (m : Writer W) (shared : Shared) (headed : W) → IsOfOutput (manner_of shared.manner).output (manner_of shared.manner).part
+visits_good : {I O F W E : Type 0} (h : Host I O) (links : Links) (Of : Visit → ℕ → List ℕ → Type 0) (start : Tree) (r : Reader I) (w : Writer O) (e : Writer E) (m : Writer W) (shared : Shared) (headed : W) → IsNear (manner_of shared.manner).output (manner_of shared.manner).part
     → Right h links Of r w (manner_of shared.manner) start → VisitsDo (StaysGood h Of start m shared headed) (seen h links (noted (visits_of (over {F = F} h r w e) m)))
 visits_good {I} {O} {F} {W} {E} h links Of start r w e m shared headed of_output right from before n what result to after v good =
     let here : Shared = from.0.0.shared in
@@ -136,11 +136,11 @@ first h Of m headed start from before none is = record {
   rows = λ stop. no_rows m (Written h Of (manner_of start.shared.manner) before.now) start.shared headed start.manifest is;
 }
 
-pub part_of_output : (run : TreeRun) (part : List ℕ) → part ≡ part_path run → IsOfOutput run.output.now part
-part_of_output run part is = within (part_of run) is
+pub part_of_output : (run : TreeRun) (part : List ℕ) → part ≡ part_path run → IsNear run.output.now part
+part_of_output run part is = near (part_of run) is
 
-manner_of_output : (run : TreeRun) (part : List ℕ) (shared : Shared) → Shares run part shared → part ≡ part_path run → IsOfOutput (manner_of shared.manner).output (manner_of shared.manner).part
-manner_of_output run part shared shares is = subst (λ (k : Manner). IsOfOutput k.output k.part) (sym shares.manner) (part_of_output run part is)
+manner_of_output : (run : TreeRun) (part : List ℕ) (shared : Shared) → Shares run part shared → part ≡ part_path run → IsNear (manner_of shared.manner).output (manner_of shared.manner).part
+manner_of_output run part shared shares is = subst (λ (k : Manner). IsNear k.output k.part) (sym shares.manner) (part_of_output run part is)
 
 -- ---- all names
 

@@ -7,10 +7,10 @@ use Rattle.dcm_files.specs.declared.folders.FoundKind.TheVariants as kinds
 use Rattle.dcm_files.specs.declared.folders.Links.{Links}
 use Rattle.dcm_files.specs.declared.folders.Links.TheVariants.{Kept, Followed}
 use Rattle.dcm_walk.specs.Folder as walk
-use Rattle.dcm_walk.specs.Folder.{IsJudged, DoesNamed, Listed, DoesNames, DoesFolder, Enters, EntersAt, EntryAt, WalksFolder, named_at, LEVELS}
+use Rattle.dcm_walk.specs.Folder.{IsFit, IsJudged, DoesNamed, Listed, DoesNames, DoesFolder, Enters, EntersAt, EntryAt, WalksFolder, named_at, LEVELS}
 use Rattle.dcm_walk.specs.List as lists
 use Rattle.dcm_walk.specs.List.{DoesLine, WalksList, LooksAlong, wrong_with, what_of, what_at, named_line}
-use Rattle.dcm_walk.specs.Names.{below}
+use Rattle.dcm_walk.specs.Names.{below, leads_below}
 use Rattle.dcm_walk.specs.Visits.{Named, Step, Visits}
 use Rattle.dcm_walk.specs.declared.folder.FolderNumber.{FolderNumber}
 use Rattle.dcm_walk.specs.declared.folder.Walk.{Walk}
@@ -19,10 +19,19 @@ use Rattle.dcm_walk.specs.declared.visitor.Stopped.{Stopped}
 use Rattle.dcm_walk.specs.declared.visitor.What.{What}
 use Rattle.dcm_walk.specs.declared.visitor.What.TheVariants as whats
 use Rattle.dcm_tree_laws.specs.FileSystem.{FileSystem, Host, folders_do}
+use Rattle.dcm_tree_laws.proofs.Below.{fit_leads}
 
--- a file that is visited is at its path, with this mode
+-- a regular file with this mode is at a path, and the name leads to something below the folder
+pub record SawFile {I O : Type 0} (h : Host I O) (links : Links) (s : FileSystem) (n : Named) (mode : ℕ) : Type 0 where
+  pub file : Found
+  pub is : s.now.at (h.leads links n.path) ≡ Some file
+  pub mode_is : file.mode ≡ mode
+  pub kind : file.kind ≡ kinds.File
+  pub leads : leads_below n.relative ≡ true
+
+-- so it is of a file that is visited
 abbrev pub Saw : {I O : Type 0} → Host I O → Links → FileSystem → Named → What → Type 0
-Saw h links s n what = (mode : ℕ) → what ≡ whats.File mode → (f : Found) × (s.now.at (h.leads links n.path) ≡ Some f) × (f.mode ≡ mode)
+Saw h links s n what = (mode : ℕ) → what ≡ whats.File mode → SawFile h links s n mode
 
 -- visits of such names
 abbrev pub seen : {I O V : Type 0} → Host I O → Links → Visits V FileSystem → Visits V FileSystem
@@ -44,8 +53,14 @@ same_mode : (a b : ℕ) → whats.File a ≡ whats.File b → a ≡ b
 same_mode a b e = cc
 
 -- what was found is there
-found_saw : {I O : Type 0} (h : Host I O) (links : Links) (n : Named) (found : Found) (before looked : FileSystem) → (Some found ≡ before.now.at (h.leads links n.path)) × (looked ≡ before) → Saw h links looked n (whats.File found.mode)
-found_saw h links n found before looked call = λ mode is. (found, subst (λ (s : FileSystem). s.now.at (h.leads links n.path) ≡ Some found) (sym call.1) (sym call.0), same_mode found.mode mode is)
+found_saw : {I O : Type 0} (h : Host I O) (links : Links) (n : Named) (found : Found) (before looked : FileSystem) → IsFit n → found.kind ≡ kinds.File → (Some found ≡ before.now.at (h.leads links n.path)) × (looked ≡ before) → Saw h links looked n (whats.File found.mode)
+found_saw h links n found before looked fit kind call = λ mode is. record {
+  file = found;
+  is = subst (λ (s : FileSystem). s.now.at (h.leads links n.path) ≡ Some found) (sym call.1) (sym call.0);
+  mode_is = same_mode found.mode mode is;
+  kind = kind;
+  leads = fit_leads n fit;
+}
 
 -- ---- a folder
 
@@ -54,7 +69,7 @@ module _ {I O V : Type 0} (F : Type 0) (h : Host I O) (visits : Visits V FileSys
       → Becomes (DoesNamed (folders_do {F = F} h) visits Enter n) (DoesNamed (folders_do {F = F} h) (seen h Kept visits) EnterSeen n)
   named_seen Enter EnterSeen enters n from before r to after (walk.not_fit what judged v) = walk.not_fit what judged (v, none_saw h Kept before n what (judged_not n what judged))
   named_seen Enter EnterSeen enters n from before r to after (walk.not_seen looked fit s v) = walk.not_seen looked fit s (v, none_saw h Kept looked n _ (λ mode e. absurd (cc)))
-  named_seen Enter EnterSeen enters n from before r to after (walk.a_file found looked fit s is v) = walk.a_file found looked fit s is (v, found_saw h Kept n found before looked s)
+  named_seen Enter EnterSeen enters n from before r to after (walk.a_file found looked fit s is v) = walk.a_file found looked fit s is (v, found_saw h Kept n found before looked fit is s)
   named_seen Enter EnterSeen enters n from before r to after (walk.no_file found looked fit s is v) = walk.no_file found looked fit s is (v, none_saw h Kept looked n _ (λ mode e. absurd (cc)))
   named_seen Enter EnterSeen enters n from before r to after (walk.a_folder found looked fit s is e) = walk.a_folder found looked fit s is (enters found n from looked r to after e)
 
@@ -115,6 +130,15 @@ mode_at kinds.File a b e = cc
 mode_at kinds.Folder a b e = absurd (cc)
 mode_at kinds.Other a b e = absurd (cc)
 
+kind_at : (kind : FoundKind) (a b : ℕ) → what_at kind a ≡ whats.File b → kind ≡ kinds.File
+kind_at kinds.File a b e = refl
+kind_at kinds.Folder a b e = absurd (cc)
+kind_at kinds.Other a b e = absurd (cc)
+
+kind_if : (b : Bool) (kind : FoundKind) (mode other : ℕ) → (if b then whats.OfOutput else what_at kind mode) ≡ whats.File other → kind ≡ kinds.File
+kind_if true kind mode other e = absurd (cc)
+kind_if false kind mode other e = kind_at kind mode other e
+
 mode_if : (b : Bool) (kind : FoundKind) (mode other : ℕ) → (if b then whats.OfOutput else what_at kind mode) ≡ whats.File other → mode ≡ other
 mode_if true kind mode other e = absurd (cc)
 mode_if false kind mode other e = mode_at kind mode other e
@@ -128,18 +152,23 @@ module _ {I O V : Type 0} (F : Type 0) (h : Host I O) (visits : Visits V FileSys
   on_the_way output n before wrong what after w (lists.with_one at size found other mid o slash s wrong_is is) =
       none_saw h Followed after n what (λ mode e. wrong_not output found other mode wrong_is (some_what other what (sym is ∙ w) ∙ e))
 
-  at_its_end : (output : FolderNumber) (n : Named) (found : Option Found) (before after : FileSystem) (what : What) → what ≡ what_of output found → lists.Sees (folders_do {F = F} h) n.path before found after → Saw h Followed after n what
-  at_its_end output n None before after what is s = none_saw h Followed after n what (λ mode e. absurd (let no : whats.Unseen ≡ whats.File mode = sym is ∙ e in cc))
-  at_its_end output n (Some found) before after what is s =
-      λ mode e. (found, subst (λ (t : FileSystem). t.now.at (h.leads Followed n.path) ≡ Some found) (sym s.1) (sym s.0), mode_if (walk.is_output output found) found.kind found.mode mode (sym is ∙ e))
+  at_its_end : (output : FolderNumber) (n : Named) (found : Option Found) (before after : FileSystem) (what : What) → IsFit n → what ≡ what_of output found → lists.Sees (folders_do {F = F} h) n.path before found after → Saw h Followed after n what
+  at_its_end output n None before after what fit is s = none_saw h Followed after n what (λ mode e. absurd (let no : whats.Unseen ≡ whats.File mode = sym is ∙ e in cc))
+  at_its_end output n (Some found) before after what fit is s = λ mode e. record {
+    file = found;
+    is = subst (λ (t : FileSystem). t.now.at (h.leads Followed n.path) ≡ Some found) (sym s.1) (sym s.0);
+    mode_is = mode_if (walk.is_output output found) found.kind found.mode mode (sym is ∙ e);
+    kind = kind_if (walk.is_output output found) found.kind found.mode mode (sym is ∙ e);
+    leads = fit_leads n fit;
+  }
 
-  looks_saw : (output : FolderNumber) (n : Named) (before : FileSystem) (what : What) (after : FileSystem) → lists.Looks (folders_do {F = F} h) output n before what after → Saw h Followed after n what
-  looks_saw output n before what after (lists.on_the_way l) = on_the_way output n before (Some what) what after refl l
-  looks_saw output n before what after (lists.at_its_end found mid l s is) = at_its_end output n found mid after what is s
+  looks_saw : (output : FolderNumber) (n : Named) (before : FileSystem) (what : What) (after : FileSystem) → IsFit n → lists.Looks (folders_do {F = F} h) output n before what after → Saw h Followed after n what
+  looks_saw output n before what after fit (lists.on_the_way l) = on_the_way output n before (Some what) what after refl l
+  looks_saw output n before what after fit (lists.at_its_end found mid l s is) = at_its_end output n found mid after what fit is s
 
   line_seen : (output : FolderNumber) (line : List ℕ) → Becomes (DoesLine (folders_do {F = F} h) visits output line) (DoesLine (folders_do {F = F} h) (seen h Followed visits) output line)
   line_seen output line from before r to after (lists.not_fit what judged v) = lists.not_fit what judged (v, none_saw h Followed before (named_line line) what (judged_not (named_line line) what judged))
-  line_seen output line from before r to after (lists.looked what mid fit l v) = lists.looked what mid fit l (v, looks_saw output (named_line line) before what mid l)
+  line_seen output line from before r to after (lists.looked what mid fit l v) = lists.looked what mid fit l (v, looks_saw output (named_line line) before what mid fit l)
 
   lines_seen : (gets : I → Option (List ℕ) → I → Type 0) (output : FolderNumber) (from : V) (before : FileSystem) (input : I) (to : V) (after : FileSystem) (given : List ℕ) (left : I) (is_over : Bool) (names : List (List ℕ))
       → lists.Listed gets (DoesLine (folders_do {F = F} h) visits output) from before input to after given left is_over names → lists.Listed gets (DoesLine (folders_do {F = F} h) (seen h Followed visits) output) from before input to after given left is_over names

@@ -30,7 +30,7 @@ use Rattle.dcm_tree_laws.proofs.Held.{GivesAll, held_gives, Left, reads_left}
 use Rattle.dcm_tree_laws.proofs.Jobs.{finds_job}
 use Rattle.dcm_tree_laws.proofs.Looking.{same_ok}
 use Rattle.dcm_tree_laws.proofs.OutputsBy.{Still, Right, folder_good, list_good}
-use Rattle.dcm_tree_laws.proofs.Seen.{Saw}
+use Rattle.dcm_tree_laws.proofs.Seen.{Saw, SawFile}
 use Rattle.dcm_tree_laws.proofs.RowsBy.{HasRows, same_manifest}
 
 -- ---- what an input holds
@@ -92,8 +92,8 @@ held_since h part path start s still read at kind apart input opened o =
 mode_since : {I O : Type 0} (h : Host I O) (links : Links) (part : List ℕ) (n : Named) (start : Tree) (s : FileSystem) (what : What) (mode : ℕ) → Still h part start s.now → Saw h links s n what → what ≡ File mode → (read : Found)
     → start.at (h.leads links n.path) ≡ Some read → h.leads links n.path ≢ place_of h part → h.masked mode ≡ h.masked read.mode
 mode_since h links part n start s what mode still saw is read at apart =
-    let x : (f : Found) × (s.now.at (h.leads links n.path) ≡ Some f) × (f.mode ≡ mode) = saw mode is in
-    ap h.masked (sym x.2 ∙ ap (λ (f : Found). f.mode) (same_some (s.now.at (h.leads links n.path)) x.0 read x.1 (still.there (h.leads links n.path) read apart at)))
+    let x : SawFile h links s n mode = saw mode is in
+    ap h.masked (sym x.mode_is ∙ ap (λ (f : Found). f.mode) (same_some (s.now.at (h.leads links n.path)) x.file read x.is (still.there (h.leads links n.path) read apart at)))
 
 single_right : {I O : Type 0} (h : Host I O) (r : Reader I) (w : Writer O) → GivesAll h r w → (links : Links) (m : Manner) (start : Tree) → Right h links (IsSingle h links m.part m.task start) r w m start
 single_right h r w all links m start = λ n what mode s still saw is job mid f input opened o left made written ending new finished done. record {

@@ -28,7 +28,8 @@ use dcm_files::Folders;
 
 /// A run over a tree leaves what was there. Each file stays, with its bytes, its number and its mode, each folder and
 /// each link. So it is after each of its calls, also where it is cut off there, and whatever calls fail. What is new is
-/// below the folder of the outputs, or that folder. Where a path leads is not changed by others meanwhile.
+/// where a path below the folder of the outputs leads, or that folder; no part of its name below it is empty, `.` or
+/// `..`. Where a path leads is not changed by others meanwhile.
 pub fn others_stay<I: DeviceIn, O: DeviceOut, W: DeviceOut, E: DeviceOut, F>()
     ensures run { OthersStay F I.DeviceIn O.DeviceOut W.DeviceOut E.DeviceOut }
     ensures words { OthersStayByWords F I.DeviceIn O.DeviceOut E.DeviceOut }
