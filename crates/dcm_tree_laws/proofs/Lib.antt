@@ -21,6 +21,7 @@ pub mod Runs
 pub mod OfRuns
 pub mod RowsBy
 pub mod Programs
+pub mod HalvesBy
 pub mod Forgets
 pub mod WholePart
 pub mod MadeWay

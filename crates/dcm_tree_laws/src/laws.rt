@@ -11,7 +11,8 @@ ghost use Rattle.dcm_tree_laws.specs.Distinct.{OutputsAreDistinct, OutputsAreDis
 ghost use Rattle.dcm_tree_laws.specs.Flows.{NoNameFlows, SameBecomes};
 ghost use Rattle.dcm_tree_laws.specs.Kept.{AgainIsKept, AgainIsKeptOfList, KeptIsThere, KeptIsThereOfList};
 ghost use Rattle.dcm_tree_laws.specs.Kept.{SecondIsKept, SecondIsKeptOfList, StaysFree, WithoutIsLeft};
-ghost use Rattle.dcm_tree_laws.specs.Laws.{NeverHalf, NeverHalfByWords, OthersStay, OthersStayByWords};
+ghost use Rattle.dcm_tree_laws.specs.Halves.{NeverHalf, NeverHalfByWords, NeverHalfOfBytes};
+ghost use Rattle.dcm_tree_laws.specs.Laws.{OthersStay, OthersStayByWords};
 ghost use Rattle.dcm_tree_laws.specs.OneRow.{OneRow, OneRowOfList};
 ghost use Rattle.dcm_tree_laws.specs.Outputs.{WrittenIsThere, WrittenIsThereOfList};
 ghost use Rattle.dcm_tree_laws.specs.Part.{NoPartAfterRun, NoPartLeft, NoPartLeftByList};
@@ -36,9 +37,14 @@ pub fn others_stay<I: DeviceIn, O: DeviceOut, W: DeviceOut, E: DeviceOut, F>()
 {}
 
 /// No output of a tree is half under its name. After each call of a run over one, whatever calls fail, each file that
-/// was not there before has all the bytes that its output took of a job that was done. The run's own part is set aside.
+/// was not there before is whole. It has all the bytes that its output took of a job that was done: the one that the
+/// run's task has for the file of a name, done of the input that was opened at its path. The mode is that of that file,
+/// less the bits that the system takes away. Where the calls of a reader give what the file holds, and an output tells
+/// all that it took, the bytes are what a single run writes of the bytes that were in the file when it was read. The
+/// run's own part is set aside.
 pub fn never_half<I: DeviceIn, O: DeviceOut, W: DeviceOut, E: DeviceOut, F>()
     ensures run { NeverHalf F I.DeviceIn O.DeviceOut W.DeviceOut E.DeviceOut }
+    ensures bytes { NeverHalfOfBytes F I.DeviceIn O.DeviceOut W.DeviceOut E.DeviceOut }
     ensures words { NeverHalfByWords F I.DeviceIn O.DeviceOut E.DeviceOut }
 {}
 
