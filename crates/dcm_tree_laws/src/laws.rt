@@ -73,7 +73,8 @@ pub fn outputs_are_distinct<I: DeviceIn, O: DeviceOut, W: DeviceOut, E: DeviceOu
 {}
 
 /// A run over a tree leaves no part. So it is where no removing of a file failed, also of a run that ends before its
-/// last name. At the path of the part is what was there before, and that is nothing where a run is begun.
+/// last name. At the path of the part is what was there before, and that is nothing where a run is begun. Of a run as a
+/// whole it is said where the folder of the outputs and the part in it are at two places, as they are in any file system.
 pub fn no_part_left<I: DeviceIn, O: DeviceOut, W: DeviceOut, E: DeviceOut, F>()
     ensures run { NoPartAfterRun F I.DeviceIn O.DeviceOut W.DeviceOut E.DeviceOut }
     ensures folder { NoPartLeft F I.DeviceIn O.DeviceOut W.DeviceOut E.DeviceOut }
