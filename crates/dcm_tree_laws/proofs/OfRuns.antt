@@ -2,7 +2,6 @@
 use Rattle.std.specs.Prelude.{false}
 use Rattle.std.proofs.Common.{◌≡◌, refl, inl, inr, ◌⊎◌, ℕ, List, [], ◌∷◌}
 use Rattle.dcm_devices.specs.Writing.{Writer}
-use Rattle.dcm_files.specs.declared.folders.Links.{Links}
 use Rattle.dcm_cli.specs.Calls.{Reader}
 use Rattle.dcm_trees.specs.declared.run.TreeRun.{TreeRun}
 use Rattle.dcm_trees.specs.Task.{task_of}
@@ -14,7 +13,7 @@ use Rattle.dcm_tree_laws.specs.Stays.{IsOfOutput, LeadsThere, Stays, OfEach, Alw
 use Rattle.dcm_tree_laws.proofs.Below.{part_is_within}
 use Rattle.dcm_tree_laws.proofs.Both.{BothIn, after_steps}
 use Rattle.dcm_tree_laws.proofs.Near.{LeadsIn, StaysIn}
-use Rattle.dcm_tree_laws.proofs.Runs.{RightIn, does_tree, always_right}
+use Rattle.dcm_tree_laws.proofs.Runs.{RightOf, does_tree, always_right}
 use Rattle.dcm_tree_laws.proofs.Steps.{idle, quiet}
 
 -- ---- what stays
@@ -37,7 +36,7 @@ always_so h IsWhole part output start s both = (stays_so h part output start s.n
 
 -- what holds after it, where its files give such outputs
 pub after_run : {I O F W E : Type 0} (h : Host I O) (IsWhole : ℕ → List ℕ → Type 0) (r : Reader I) (w : Writer O) (e : Writer E) (rows : Writer W) (run : TreeRun) (source : Source) (start : Tree) (manifest : W) (from : E) (status : ℕ) (left : W) (to : E) (after : FileSystem)
-    → ((links : Links) → RightIn h links IsWhole r w (task_of run.task) (part_path run) run.output.now start) → DoesTree (over {F = F} h r w e) rows run source manifest from (begins start) status left to after
+    → RightOf h source IsWhole r w (task_of run.task) (part_path run) run.output.now start → DoesTree (over {F = F} h r w e) rows run source manifest from (begins start) status left to after
     → BothIn h IsWhole (part_path run) (IsOfOutput run.output.now) start idle after
 after_run {I} {O} {F} h IsWhole r w e rows run source start manifest from status left to after right does =
     after_steps h IsWhole (part_path run) (IsOfOutput run.output.now) start false (part_is_within run.output.now (part_path run) run.options.part.number refl) idle after
@@ -46,4 +45,4 @@ after_run {I} {O} {F} h IsWhole r w e rows run source start manifest from status
 pub others_stay : {I O F W E : Type 0} (r : Reader I) (w : Writer O) (rows : Writer W) (e : Writer E) → OthersStay F r w rows e
 others_stay {I} {O} {F} r w rows e h run source start manifest from status left to after does =
     always_so h (IsOutput h r w) (part_path run) run.output.now start after
-    (after_run {F = F} h (IsOutput h r w) r w e rows run source start manifest from status left to after (λ links. always_right h r w links (task_of run.task) (part_path run) run.output.now start) does)
+    (after_run {F = F} h (IsOutput h r w) r w e rows run source start manifest from status left to after (always_right h r w source (task_of run.task) (part_path run) run.output.now start) does)

@@ -3,10 +3,9 @@ use Rattle.std.specs.Prelude.{false}
 use Rattle.std.proofs.Common.{◌≡◌, ◌∙◌, refl, sym, ap, subst, ℕ, List, Bool, Option, Some, None, Result, Ok, Err}
 use Rattle.dcm_deid.specs.declared.fate.Options.{Options}
 use Rattle.dcm_devices.specs.Writing.{Writer}
-use Rattle.dcm_files.specs.declared.folders.Links.{Links}
 use Rattle.dcm_words.specs.Words.{Job, deidentify}
 use Rattle.dcm_words.specs.Words as words
-use Rattle.dcm_tree_words.specs.Trees.{Tree as WordsTree, meant_tree}
+use Rattle.dcm_tree_words.specs.Trees.{Source, Tree as WordsTree, meant_tree}
 use Rattle.dcm_cli.specs.declared.key.KeyRead.{KeyRead}
 use Rattle.dcm_cli.specs.declared.key.NoKey.{NoKey}
 use Rattle.dcm_cli.specs.Calls.{Reader}
@@ -26,7 +25,7 @@ use Rattle.dcm_tree_laws.proofs.Both.{BothIn, after_steps}
 use Rattle.dcm_tree_laws.proofs.HalvesBy.{output_right}
 use Rattle.dcm_tree_laws.proofs.Looking.{same_ok}
 use Rattle.dcm_tree_laws.proofs.OfRuns.{always_so}
-use Rattle.dcm_tree_laws.proofs.Runs.{RunSteps, RightIn, does_tree, always_right, opens_input}
+use Rattle.dcm_tree_laws.proofs.Runs.{RunSteps, RightOf, does_tree, always_right, opens_input}
 use Rattle.dcm_tree_laws.proofs.Steps.{idle, goes_on, quiet}
 
 -- standard output is closed where no file is being written
@@ -50,19 +49,19 @@ abbrev IsByWords : {I O : Type 0} → Host I O → (IsWhole : ℕ → List ℕ �
 IsByWords h IsWhole t start after = BothIn h IsWhole (part_of_tree t) (IsOfOutput t.plan.output) start idle after
 
 -- how they go on, with this task, folder and number of a share
-abbrev GoOnWith : {I O : Type 0} → Host I O → (IsWhole : ℕ → List ℕ → Type 0) → Reader I → Writer O → (start : Tree) → (before after : FileSystem) → Task → (output : List ℕ) → (number : ℕ) → Type 0
-GoOnWith h IsWhole r w start before after task output number =
-    ((links : Links) → RightIn h links IsWhole r w task (below output (part_name number)) output start) → RunSteps h IsWhole (below output (part_name number)) output start before → RunSteps h IsWhole (below output (part_name number)) output start after
+abbrev GoOnWith : {I O : Type 0} → Host I O → (IsWhole : ℕ → List ℕ → Type 0) → Reader I → Writer O → Source → (start : Tree) → (before after : FileSystem) → Task → (output : List ℕ) → (number : ℕ) → Type 0
+GoOnWith h IsWhole r w source start before after task output number =
+    RightOf h source IsWhole r w task (below output (part_name number)) output start → RunSteps h IsWhole (below output (part_name number)) output start before → RunSteps h IsWhole (below output (part_name number)) output start after
 
-as_words : {I O : Type 0} (h : Host I O) (IsWhole : ℕ → List ℕ → Type 0) (r : Reader I) (w : Writer O) (start : Tree) (before after : FileSystem) (task that : Task) (output other : List ℕ) (number same : ℕ) → task ≡ that → output ≡ other → number ≡ same
-    → GoOnWith h IsWhole r w start before after task output number → GoOnWith h IsWhole r w start before after that other same
-as_words h IsWhole r w start before after task that output other number same t o n goes =
-    subst (λ (x : Task). GoOnWith h IsWhole r w start before after x other same) t
-    (subst (λ (x : List ℕ). GoOnWith h IsWhole r w start before after task x same) o (subst (λ (x : ℕ). GoOnWith h IsWhole r w start before after task output x) n goes))
+as_words : {I O : Type 0} (h : Host I O) (IsWhole : ℕ → List ℕ → Type 0) (r : Reader I) (w : Writer O) (source : Source) (start : Tree) (before after : FileSystem) (task that : Task) (output other : List ℕ) (number same : ℕ) → task ≡ that → output ≡ other → number ≡ same
+    → GoOnWith h IsWhole r w source start before after task output number → GoOnWith h IsWhole r w source start before after that other same
+as_words h IsWhole r w source start before after task that output other number same t o n goes =
+    subst (λ (x : Task). GoOnWith h IsWhole r w source start before after x other same) t
+    (subst (λ (x : List ℕ). GoOnWith h IsWhole r w source start before after task x same) o (subst (λ (x : ℕ). GoOnWith h IsWhole r w source start before after task output x) n goes))
 
 -- the files of a run by words give such outputs, whatever task these mean
 abbrev RightByWords : {I O : Type 0} → Host I O → (IsWhole : ℕ → List ℕ → Type 0) → Reader I → Writer O → WordsTree → (start : Tree) → Type 0
-RightByWords h IsWhole r w t start = (task : Task) → IsTaskOf t task → (links : Links) → RightIn h links IsWhole r w task (part_of_tree t) t.plan.output start
+RightByWords h IsWhole r w t start = (task : Task) → IsTaskOf t task → RightOf h t.source IsWhole r w task (part_of_tree t) t.plan.output start
 
 both_by : {I O : Type 0} (h : Host I O) (IsWhole : ℕ → List ℕ → Type 0) (t : WordsTree) (start : Tree) (before after : FileSystem) → after ≡ before → IsByWords h IsWhole t start before → IsByWords h IsWhole t start after
 both_by h IsWhole t start before after same both = subst (IsByWords h IsWhole t start) (sym same) both
@@ -76,7 +75,7 @@ module _ {I O E : Type 0} (F : Type 0) (h : Host I O) (IsWhole : ℕ → List �
   runs_task task is_task from before status to after so_far (spec.has_run o run left mid done call meant does closes) =
       let both : IsByWords h IsWhole t start done =
       first_then done
-      (as_words h IsWhole r w start mid done (task_of run.task) task run.output.now t.plan.output run.options.part.number t.options.part.number meant.task_is meant.output (ap (λ o. o.part.number) meant.options)
+      (as_words h IsWhole r w t.source start mid done (task_of run.task) task run.output.now t.plan.output run.options.part.number t.options.part.number meant.task_is meant.output (ap (λ o. o.part.number) meant.options)
       (λ right_there steps. does_tree {F = F} h IsWhole r w e w start run t.source o.device from mid status left to done does right_there steps) (right task is_task) (goes_on so_far (quiet call))) in
       both_by h IsWhole t start done after (closes_stdout done.written (h.took left) done after both.keeps.quiet closes) both
 
@@ -100,14 +99,14 @@ module _ {I O E : Type 0} (F : Type 0) (h : Host I O) (IsWhole : ℕ → List �
 pub others_stay : {I O F E : Type 0} (r : Reader I) (w : Writer O) (e : Writer E) → OthersStayByWords F r w e
 others_stay {I} {O} {F} r w e h given t start from status to after meant obeys =
     always_so h (IsOutput h r w) (part_of_tree t) t.plan.output start after
-    (after_words F h (IsOutput h r w) r w e t start (λ task is links. always_right h r w links task (part_of_tree t) t.plan.output start) given from status to after meant obeys)
+    (after_words F h (IsOutput h r w) r w e t start (λ task is. always_right h r w t.source task (part_of_tree t) t.plan.output start) given from status to after meant obeys)
 
 -- the output of a file by the task that words mean
 by_words : {I O : Type 0} (h : Host I O) (r : Reader I) (w : Writer O) (t : WordsTree) (start : Tree) → RightByWords h (IsOutputByWords h r w t start) r w t start
-by_words h r w t start task is links = λ n what mode s stays saw of_file job mid f input opened o left made written ending new finished done. record {
+by_words h r w t start task is = λ links n what mode s stays saw of_file job mid f input opened o left made written ending new finished done. record {
   task = task;
   is_task = is;
-  it = output_right h r w task (part_of_tree t) t.plan.output start links n what mode s stays saw of_file job mid f input opened o left made written ending new finished done;
+  it = output_right h r w t.source task (part_of_tree t) t.plan.output start links n what mode s stays saw of_file job mid f input opened o left made written ending new finished done;
 }
 
 pub never_half : {I O F E : Type 0} (r : Reader I) (w : Writer O) (e : Writer E) → NeverHalfByWords F r w e

@@ -31,6 +31,7 @@ use Rattle.dcm_trees.specs.Tree.{OpensFolder, OpensTree, VisitsAll, VisitsFolder
 use Rattle.dcm_trees.specs.Work as work
 use Rattle.dcm_trees.specs.Work.{Progress, progress, VisitsName, visits_of}
 use Rattle.dcm_tree_laws.specs.FileSystem.{FileSystem, Host, Tree, begins, may_do, folders_do}
+use Rattle.dcm_tree_laws.specs.Halves.{IsOfSource, in_folder, in_list}
 use Rattle.dcm_tree_laws.specs.Laws.{IsOutput, over, part_path}
 use Rattle.dcm_tree_laws.specs.Stays.{IsOfOutput, itself}
 use Rattle.dcm_tree_laws.proofs.Beginnings.{begins_by}
@@ -43,7 +44,7 @@ use Rattle.dcm_tree_laws.proofs.Lists.{lines_do}
 use Rattle.dcm_tree_laws.proofs.Looking.{same_ok}
 use Rattle.dcm_tree_laws.proofs.Quiet.{are_quiet, only_quiet, IsClosed, IsSame}
 use Rattle.dcm_tree_laws.proofs.Near.{IsNear, StaysIn}
-use Rattle.dcm_tree_laws.proofs.Seen.{Saw, seen, walk_seen, list_seen}
+use Rattle.dcm_tree_laws.proofs.Seen.{IsUnder, IsLine, Saw, saw_in, seen, walk_seen, list_seen}
 use Rattle.dcm_tree_laws.proofs.Steps.{idle, Steps, StepsIn, goes_on, quiet}
 use Rattle.dcm_tree_laws.proofs.Walks.{VisitsDo, walks_do}
 
@@ -75,14 +76,22 @@ abbrev pub RunSteps : {I O : Type 0} → Host I O → (IsWhole : ℕ → List �
 RunSteps h IsWhole part output start s = StepsIn h IsWhole part (IsOfOutput output) idle (begins start) idle s
 
 -- the file of each name that is visited gives such an output, at each state that such steps come to
-abbrev pub RightIn : {I O : Type 0} → Host I O → Links → (IsWhole : ℕ → List ℕ → Type 0) → Reader I → Writer O → (task : Task) → (part output : List ℕ) → (start : Tree) → Type 0
-RightIn h links IsWhole r w task part output start =
-    (n : Named) (what : What) (mode : ℕ) (s : FileSystem) → StaysIn h part (IsOfOutput output) start s.now → Saw h links s n what → what ≡ File mode → FileGives h IsWhole r w task n.path mode s
+abbrev pub RightIn : {I O : Type 0} → Host I O → Links → (In : Named → Type 0) → (IsWhole : ℕ → List ℕ → Type 0) → Reader I → Writer O → (task : Task) → (part output : List ℕ) → (start : Tree) → Type 0
+RightIn h links In IsWhole r w task part output start =
+    (n : Named) (what : What) (mode : ℕ) (s : FileSystem) → StaysIn h part (IsOfOutput output) start s.now → Saw h links In s n what → what ≡ File mode → FileGives h IsWhole r w task n.path mode s
+
+-- be they found in a folder or in a list
+abbrev pub RightOf : {I O : Type 0} → Host I O → Source → (IsWhole : ℕ → List ℕ → Type 0) → Reader I → Writer O → (task : Task) → (part output : List ℕ) → (start : Tree) → Type 0
+RightOf h source IsWhole r w task part output start = (links : Links) → RightIn h links (IsOfSource source) IsWhole r w task part output start
+
+right_in : {I O : Type 0} (h : Host I O) (source : Source) (links : Links) (In : Named → Type 0) → ((n : Named) → In n → IsOfSource source n) → (IsWhole : ℕ → List ℕ → Type 0) (r : Reader I) (w : Writer O) (task : Task) (part output : List ℕ) (start : Tree)
+    → RightIn h links (IsOfSource source) IsWhole r w task part output start → RightIn h links In IsWhole r w task part output start
+right_in h source links In of_source IsWhole r w task part output start right = λ n what mode s stays saw is. right n what mode s stays (λ m e. saw_in h links In (IsOfSource source) s n m (of_source n) (saw m e)) is
 
 -- so the steps go on
-abbrev pub GoOn : {I O : Type 0} → Host I O → Links → (IsWhole : ℕ → List ℕ → Type 0) → Reader I → Writer O → (task : Task) → (part output : List ℕ) → (start : Tree) → (before after : FileSystem) → Type 0
-GoOn h links IsWhole r w task part output start before after =
-    IsOfOutput output part → RightIn h links IsWhole r w task part output start → RunSteps h IsWhole part output start before → RunSteps h IsWhole part output start after
+abbrev pub GoOn : {I O : Type 0} → Host I O → Links → (In : Named → Type 0) → (IsWhole : ℕ → List ℕ → Type 0) → Reader I → Writer O → (task : Task) → (part output : List ℕ) → (start : Tree) → (before after : FileSystem) → Type 0
+GoOn h links In IsWhole r w task part output start before after =
+    IsOfOutput output part → RightIn h links In IsWhole r w task part output start → RunSteps h IsWhole part output start before → RunSteps h IsWhole part output start after
 
 -- what all names share stays
 record SoFar {I O W E : Type 0} (h : Host I O) (IsWhole : ℕ → List ℕ → Type 0) (start : Tree) (shared : Shared) (x : Work W × E) (s : FileSystem) : Type 0 where
@@ -99,14 +108,14 @@ far_closed {I} {O} {W} {E} h IsWhole start shared = record {
   then = λ a b c s t u first second far. second (first far);
 }
 
-by_manner : {I O : Type 0} (h : Host I O) (IsWhole : ℕ → List ℕ → Type 0) (r : Reader I) (w : Writer O) (start : Tree) (links : Links) (run : TreeRun) (part : List ℕ) (shared : Shared) (before after : FileSystem) → Shares run part shared
-    → GoOn h links IsWhole r w (manner_of shared.manner).task (manner_of shared.manner).part (manner_of shared.manner).output start before after → GoOn h links IsWhole r w (task_of run.task) part run.output.now start before after
-by_manner h IsWhole r w start links run part shared before after shares = subst (λ (k : Manner). GoOn h links IsWhole r w k.task k.part k.output start before after) shares.manner
+by_manner : {I O : Type 0} (h : Host I O) (IsWhole : ℕ → List ℕ → Type 0) (r : Reader I) (w : Writer O) (start : Tree) (links : Links) (In : Named → Type 0) (run : TreeRun) (part : List ℕ) (shared : Shared) (before after : FileSystem) → Shares run part shared
+    → GoOn h links In IsWhole r w (manner_of shared.manner).task (manner_of shared.manner).part (manner_of shared.manner).output start before after → GoOn h links In IsWhole r w (task_of run.task) part run.output.now start before after
+by_manner h IsWhole r w start links In run part shared before after shares = subst (λ (k : Manner). GoOn h links In IsWhole r w k.task k.part k.output start before after) shares.manner
 
 module _ {I O F W E : Type 0} (h : Host I O) (IsWhole : ℕ → List ℕ → Type 0) (r : Reader I) (w : Writer O) (e : Writer E) (rows : Writer W) (start : Tree) where
-  visits_go : (links : Links) (shared : Shared) → IsOfOutput (manner_of shared.manner).output (manner_of shared.manner).part → RightIn h links IsWhole r w (manner_of shared.manner).task (manner_of shared.manner).part (manner_of shared.manner).output start
-      → VisitsDo (GoesFar {W = W} {E = E} h IsWhole start shared) (seen h links (visits_of (over {F = F} h r w e) rows))
-  visits_go links shared of_output right from before n what result to after v far =
+  visits_go : (links : Links) (In : Named → Type 0) (shared : Shared) → IsOfOutput (manner_of shared.manner).output (manner_of shared.manner).part → RightIn h links In IsWhole r w (manner_of shared.manner).task (manner_of shared.manner).part (manner_of shared.manner).output start
+      → VisitsDo (GoesFar {W = W} {E = E} h IsWhole start shared) (seen h links In (visits_of (over {F = F} h r w e) rows))
+  visits_go links In shared of_output right from before n what result to after v far =
       let k : Manner = manner_of shared.manner in
       let both : BothIn h IsWhole k.part (IsOfOutput k.output) start idle before = after_steps h IsWhole k.part (IsOfOutput k.output) start false of_output idle before far.steps in
       let here : VisitsName (over {F = F} h r w e) rows shared (progress from.0) from.1 before n what result (progress to.0) to.1 after =
@@ -121,30 +130,30 @@ module _ {I O F W E : Type 0} (h : Host I O) (IsWhole : ℕ → List ℕ → Typ
   -- ---- the names in a folder, or in a list
 
   visits_all : (run : TreeRun) (path : List ℕ) (begun : Begun) (opened : F) (headed : W) (from : E) (before : FileSystem) (status : ℕ) (left : W) (to : E) (after : FileSystem)
-      → VisitsAll (over {F = F} h r w e) rows run path begun opened headed from before status left to after → GoOn h Kept IsWhole r w (task_of run.task) begun.part.items run.output.now start before after
+      → VisitsAll (over {F = F} h r w e) rows run path begun opened headed from before status left to after → GoOn h Kept (IsUnder path) IsWhole r w (task_of run.task) begun.part.items run.output.now start before after
   visits_all run path begun opened headed from before status left to after v =
-      by_manner h IsWhole r w start Kept run begun.part.items v.start.shared before after v.begins.shares (λ of_output right steps.
-      (walks_do (folders_do {F = F} h) (only_quiet (folders_do {F = F} h) (are_quiet h)) (GoesFar {W = W} {E = E} h IsWhole start v.start.shared) (far_closed {W = W} {E = E} h IsWhole start v.start.shared) (seen h Kept (visits_of (over {F = F} h r w e) rows))
-      (visits_go Kept v.start.shared of_output right) path begun.number opened (v.start, from) before v.walked (v.last, v.told) after
-      (walk_seen F h (visits_of (over {F = F} h r w e) rows) path begun.number opened (v.start, from) before v.walked (v.last, v.told) after v.walks)
+      by_manner h IsWhole r w start Kept (IsUnder path) run begun.part.items v.start.shared before after v.begins.shares (λ of_output right steps.
+      (walks_do (folders_do {F = F} h) (only_quiet (folders_do {F = F} h) (are_quiet h)) (GoesFar {W = W} {E = E} h IsWhole start v.start.shared) (far_closed {W = W} {E = E} h IsWhole start v.start.shared) (seen h Kept (IsUnder path) (visits_of (over {F = F} h r w e) rows))
+      (visits_go Kept (IsUnder path) v.start.shared of_output right) path begun.number opened (v.start, from) before v.walked (v.last, v.told) after
+      (walk_seen F h path (visits_of (over {F = F} h r w e) rows) begun.number opened (v.start, from) before v.walked (v.last, v.told) after v.walks)
       (record { same = refl; steps = steps })).steps)
 
   visits_folder : (run : TreeRun) (path : List ℕ) (begun : Begun) (opened : F) (manifest : W) (from : E) (before : FileSystem) (status : ℕ) (left : W) (to : E) (after : FileSystem)
-      → VisitsFolder (over {F = F} h r w e) rows run path begun opened manifest from before status left to after → GoOn h Kept IsWhole r w (task_of run.task) begun.part.items run.output.now start before after
+      → VisitsFolder (over {F = F} h r w e) rows run path begun opened manifest from before status left to after → GoOn h Kept (IsUnder path) IsWhole r w (task_of run.task) begun.part.items run.output.now start before after
   visits_folder run path begun opened manifest from before status left to after (spec.no_header failure puts close ends) = λ of_output right steps. goes_on steps (quiet close)
   visits_folder run path begun opened manifest from before status left to after (spec.visited headed puts v) = visits_all run path begun opened headed from before status left to after v
 
   visits_listed : (run : TreeRun) (list : List ℕ) (begun : Begun) (input : I) (headed : W) (from : E) (before : FileSystem) (status : ℕ) (left : W) (to : E) (after : FileSystem) (read : I)
-      → VisitsListed (over {F = F} h r w e) rows run list begun input headed from before status left to after read → GoOn h Followed IsWhole r w (task_of run.task) begun.part.items run.output.now start before after
+      → VisitsListed (over {F = F} h r w e) rows run list begun input headed from before status left to after read → GoOn h Followed IsLine IsWhole r w (task_of run.task) begun.part.items run.output.now start before after
   visits_listed run list begun input headed from before status left to after read v =
-      by_manner h IsWhole r w start Followed run begun.part.items v.start.shared before after v.begins.shares (λ of_output right steps.
-      (lines_do (folders_do {F = F} h) (only_quiet (folders_do {F = F} h) (are_quiet h)) (GoesFar {W = W} {E = E} h IsWhole start v.start.shared) (far_closed {W = W} {E = E} h IsWhole start v.start.shared) (seen h Followed (visits_of (over {F = F} h r w e) rows))
-      (visits_go Followed v.start.shared of_output right) r.gets begun.number (v.start, from) before input v.walked (v.last, v.told) after read
+      by_manner h IsWhole r w start Followed IsLine run begun.part.items v.start.shared before after v.begins.shares (λ of_output right steps.
+      (lines_do (folders_do {F = F} h) (only_quiet (folders_do {F = F} h) (are_quiet h)) (GoesFar {W = W} {E = E} h IsWhole start v.start.shared) (far_closed {W = W} {E = E} h IsWhole start v.start.shared) (seen h Followed IsLine (visits_of (over {F = F} h r w e) rows))
+      (visits_go Followed IsLine v.start.shared of_output right) r.gets begun.number (v.start, from) before input v.walked (v.last, v.told) after read
       (list_seen F h (visits_of (over {F = F} h r w e) rows) r.gets begun.number (v.start, from) before input v.walked (v.last, v.told) after read v.walks)
       (record { same = refl; steps = steps })).steps)
 
   visits_list : (run : TreeRun) (list : List ℕ) (begun : Begun) (input : I) (manifest : W) (from : E) (before : FileSystem) (status : ℕ) (left : W) (to : E) (after : FileSystem) (read : I)
-      → VisitsList (over {F = F} h r w e) rows run list begun input manifest from before status left to after read → GoOn h Followed IsWhole r w (task_of run.task) begun.part.items run.output.now start before after
+      → VisitsList (over {F = F} h r w e) rows run list begun input manifest from before status left to after read → GoOn h Followed IsLine IsWhole r w (task_of run.task) begun.part.items run.output.now start before after
   visits_list run list begun input manifest from before status left to after read (spec.no_header failure puts ends same is) = λ of_output right steps. goes_on steps (quiet same)
   visits_list run list begun input manifest from before status left to after read (spec.visited headed puts v) = visits_listed run list begun input headed from before status left to after read v
 
@@ -174,9 +183,9 @@ pub opens_tree : {I O F : Type 0} (h : Host I O) (path : List ℕ) (before : Fil
 opens_tree h path before opened after (spec.followed own is o) = opens_folder h own before opened after o
 opens_tree h path before opened after (spec.too_long is o) = opens_folder h path before opened after o
 
-at_part : {I O : Type 0} (h : Host I O) (IsWhole : ℕ → List ℕ → Type 0) (r : Reader I) (w : Writer O) (start : Tree) (run : TreeRun) (links : Links) (begun : Begun) (before after : FileSystem) → begun.part.items ≡ part_path run
-    → GoOn h links IsWhole r w (task_of run.task) begun.part.items run.output.now start before after → GoOn h links IsWhole r w (task_of run.task) (part_path run) run.output.now start before after
-at_part h IsWhole r w start run links begun before after is goes = subst (λ (p : List ℕ). GoOn h links IsWhole r w (task_of run.task) p run.output.now start before after) is goes
+at_part : {I O : Type 0} (h : Host I O) (IsWhole : ℕ → List ℕ → Type 0) (r : Reader I) (w : Writer O) (start : Tree) (run : TreeRun) (links : Links) (In : Named → Type 0) (begun : Begun) (before after : FileSystem) → begun.part.items ≡ part_path run
+    → GoOn h links In IsWhole r w (task_of run.task) begun.part.items run.output.now start before after → GoOn h links In IsWhole r w (task_of run.task) (part_path run) run.output.now start before after
+at_part h IsWhole r w start run links In begun before after is goes = subst (λ (p : List ℕ). GoOn h links In IsWhole r w (task_of run.task) p run.output.now start before after) is goes
 
 -- the folder of the outputs is made, or is there
 begin : {I O F : Type 0} (h : Host I O) (IsWhole : ℕ → List ℕ → Type 0) (start : Tree) (run : TreeRun) (input : List ℕ) (is_list : Bool) (before : FileSystem) (result : Result Begun Refusal) (after : FileSystem)
@@ -186,14 +195,14 @@ begin {I} {O} {F} h IsWhole start run input is_list before result after b steps 
 
 module _ {I O F W E : Type 0} (h : Host I O) (IsWhole : ℕ → List ℕ → Type 0) (r : Reader I) (w : Writer O) (e : Writer E) (rows : Writer W) (start : Tree) (run : TreeRun) where
   does_opened : (path : List ℕ) (opened : F) (manifest : W) (from : E) (before : FileSystem) (status : ℕ) (left : W) (to : E) (after : FileSystem)
-      → DoesOpened (over {F = F} h r w e) rows run path opened manifest from before status left to after → GoOn h Kept IsWhole r w (task_of run.task) (part_path run) run.output.now start before after
+      → DoesOpened (over {F = F} h r w e) rows run path opened manifest from before status left to after → GoOn h Kept (IsUnder path) IsWhole r w (task_of run.task) (part_path run) run.output.now start before after
   does_opened path opened manifest from before status left to after (spec.not_begun refusal tried b close refuses is) = λ of_output right steps. goes_on (begin {F = F} h IsWhole start run path false before (Err refusal) tried b steps) (quiet close)
   does_opened path opened manifest from before status left to after (spec.was_begun begun mid b v) = λ of_output right steps.
-      at_part h IsWhole r w start run Kept begun mid after (begun_part (folders_do {F = F} h) path false run.output.now (part_of run) run.options.continues before begun mid b)
+      at_part h IsWhole r w start run Kept (IsUnder path) begun mid after (begun_part (folders_do {F = F} h) path false run.output.now (part_of run) run.options.continues before begun mid b)
       (visits_folder {F = F} h IsWhole r w e rows start run path begun opened manifest from mid status left to after v) of_output right (begin {F = F} h IsWhole start run path false before (Ok begun) mid b steps)
 
   does_folder : (path : List ℕ) (manifest : W) (from : E) (before : FileSystem) (status : ℕ) (left : W) (to : E) (after : FileSystem)
-      → DoesFolder (over {F = F} h r w e) rows run path manifest from before status left to after → GoOn h Kept IsWhole r w (task_of run.task) (part_path run) run.output.now start before after
+      → DoesFolder (over {F = F} h r w e) rows run path manifest from before status left to after → GoOn h Kept (IsUnder path) IsWhole r w (task_of run.task) (part_path run) run.output.now start before after
   does_folder path manifest from before status left to after (spec.too_long long refuses is same) = λ of_output right steps. goes_on steps (quiet same)
   does_folder path manifest from before status left to after (spec.not_opened o refuses is) = λ of_output right steps. goes_on steps (quiet (opens_tree {F = F} h path before None after o))
   does_folder path manifest from before status left to after (spec.was_opened opened mid o does) = λ of_output right steps.
@@ -210,14 +219,14 @@ opens_input h path before r after (devices.opened d is t call k i) = call.0
 
 module _ {I O F W E : Type 0} (h : Host I O) (IsWhole : ℕ → List ℕ → Type 0) (r : Reader I) (w : Writer O) (e : Writer E) (rows : Writer W) (start : Tree) (run : TreeRun) where
   does_names : (list : List ℕ) (input : I) (manifest : W) (from : E) (before : FileSystem) (status : ℕ) (left : W) (to : E) (after : FileSystem) (read : I)
-      → DoesNames (over {F = F} h r w e) rows run list input manifest from before status left to after read → GoOn h Followed IsWhole r w (task_of run.task) (part_path run) run.output.now start before after
+      → DoesNames (over {F = F} h r w e) rows run list input manifest from before status left to after read → GoOn h Followed IsLine IsWhole r w (task_of run.task) (part_path run) run.output.now start before after
   does_names list input manifest from before status left to after read (spec.not_begun refusal b refuses l is) = λ of_output right steps. begin {F = F} h IsWhole start run _ true before (Err refusal) after b steps
   does_names list input manifest from before status left to after read (spec.was_begun begun mid b v) = λ of_output right steps.
-      at_part h IsWhole r w start run Followed begun mid after (begun_part (folders_do {F = F} h) _ true run.output.now (part_of run) run.options.continues before begun mid b)
+      at_part h IsWhole r w start run Followed IsLine begun mid after (begun_part (folders_do {F = F} h) _ true run.output.now (part_of run) run.options.continues before begun mid b)
       (visits_list {F = F} h IsWhole r w e rows start run list begun input manifest from mid status left to after read v) of_output right (begin {F = F} h IsWhole start run _ true before (Ok begun) mid b steps)
 
   does_list : (path : List ℕ) (manifest : W) (from : E) (before : FileSystem) (status : ℕ) (left : W) (to : E) (after : FileSystem)
-      → DoesList (over {F = F} h r w e) rows run path manifest from before status left to after → GoOn h Followed IsWhole r w (task_of run.task) (part_path run) run.output.now start before after
+      → DoesList (over {F = F} h r w e) rows run path manifest from before status left to after → GoOn h Followed IsLine IsWhole r w (task_of run.task) (part_path run) run.output.now start before after
   does_list path manifest from before status left to after (spec.not_opened error o told s l) = λ of_output right steps. goes_on steps (quiet (opens_input {I = I} h path before (Err error) after o))
   does_list path manifest from before status left to after (spec.was_opened o read mid done opens does back) = λ of_output right steps.
       goes_on (does_names path o.device manifest from mid status left to done read does of_output right (goes_on steps (quiet (opens_input {I = I} h path before (Ok o) mid opens)))) (quiet back)
@@ -225,12 +234,12 @@ module _ {I O F W E : Type 0} (h : Host I O) (IsWhole : ℕ → List ℕ → Typ
   -- ---- a run
 
   pub does_tree : (source : Source) (manifest : W) (from : E) (before : FileSystem) (status : ℕ) (left : W) (to : E) (after : FileSystem) → DoesTree (over {F = F} h r w e) rows run source manifest from before status left to after
-      → ((links : Links) → RightIn h links IsWhole r w (task_of run.task) (part_path run) run.output.now start) → RunSteps h IsWhole (part_path run) run.output.now start before → RunSteps h IsWhole (part_path run) run.output.now start after
+      → RightOf h source IsWhole r w (task_of run.task) (part_path run) run.output.now start → RunSteps h IsWhole (part_path run) run.output.now start before → RunSteps h IsWhole (part_path run) run.output.now start after
   does_tree source manifest from before status left to after (spec.of_folder path is does) right steps =
-      does_folder {F = F} h IsWhole r w e rows start run path manifest from before status left to after does (part_is_within run.output.now (part_path run) run.options.part.number refl) (right Kept) steps
+      does_folder {F = F} h IsWhole r w e rows start run path manifest from before status left to after does (part_is_within run.output.now (part_path run) run.options.part.number refl) (right_in h source Kept (IsUnder path) (λ n under. in_folder path under.0 is under.1) IsWhole r w (task_of run.task) (part_path run) run.output.now start (right Kept)) steps
   does_tree source manifest from before status left to after (spec.of_list path is does) right steps =
-      does_list path manifest from before status left to after does (part_is_within run.output.now (part_path run) run.options.part.number refl) (right Followed) steps
+      does_list path manifest from before status left to after does (part_is_within run.output.now (part_path run) run.options.part.number refl) (right_in h source Followed IsLine (λ n line. in_list path is line) IsWhole r w (task_of run.task) (part_path run) run.output.now start (right Followed)) steps
 
 -- any output of a job that was done is such a one
-pub always_right : {I O : Type 0} (h : Host I O) (r : Reader I) (w : Writer O) (links : Links) (task : Task) (part output : List ℕ) (start : Tree) → RightIn h links (IsOutput h r w) r w task part output start
-always_right h r w links task part output start = λ n what mode s stays saw is. always_gives h r w task n.path mode s
+pub always_right : {I O : Type 0} (h : Host I O) (r : Reader I) (w : Writer O) (source : Source) (task : Task) (part output : List ℕ) (start : Tree) → RightOf h source (IsOutput h r w) r w task part output start
+always_right h r w source task part output start = λ links n what mode s stays saw is. always_gives h r w task n.path mode s

@@ -6,10 +6,11 @@ use Rattle.dcm_files.specs.declared.folders.Found.{Found}
 use Rattle.dcm_files.specs.declared.folders.FoundKind.TheVariants as kinds
 use Rattle.dcm_files.specs.declared.folders.Links.{Links}
 use Rattle.dcm_files.specs.declared.folders.Links.TheVariants.{Followed}
-use Rattle.dcm_walk.specs.Names.{leads_below}
+use Rattle.dcm_walk.specs.List.{named_line}
+use Rattle.dcm_walk.specs.Names.{below, leads_below}
 use Rattle.dcm_walk.specs.Visits.{Named}
 use Rattle.dcm_words.specs.Words.{Job, deidentify}
-use Rattle.dcm_tree_words.specs.Trees.{Source, Tree as WordsTree, meant_tree}
+use Rattle.dcm_tree_words.specs.Trees.{Source, folder, list, Tree as WordsTree, meant_tree}
 use Rattle.dcm_cli.specs.Calls.{Reader, Finishes}
 use Rattle.dcm_cli.specs.declared.ending.Ending.{Ending}
 use Rattle.dcm_trees.specs.declared.run.TreeRun.{TreeRun}
@@ -27,10 +28,16 @@ use Rattle.dcm_tree_laws.specs.Whole.{NoneHalf}
 
 -- ---- a file that is read
 
--- at a state of a run a regular file is at the path of a name: links followed where a list names it, and not where it is
--- in a folder. What was at the start is there, so that the file is one of the start, or one in OUTPUT
-pub record IsAtName {I O : Type 0} (h : Host I O) (part output : List ℕ) (start : Tree) (n : Named) (s : FileSystem)
-    : Type 0 where
+-- a name below the folder that a run is over, or one of the lines of its list
+pub data IsOfSource (source : Source) (n : Named) : Type 0 where
+  in_folder : (path relative : List ℕ) → source ≡ folder path → n.path ≡ below path relative → IsOfSource source n
+  in_list : (path : List ℕ) → source ≡ list path → n ≡ named_line n.name → IsOfSource source n
+
+-- at a state of a run a regular file is at the path of such a name: links followed where a list names it, and not where
+-- it is in a folder. What was at the start is there, so that the file is one of the start, or one in OUTPUT
+pub record IsAtName {I O : Type 0} (h : Host I O) (source : Source) (part output : List ℕ) (start : Tree) (n : Named)
+    (s : FileSystem) : Type 0 where
+  pub of_source : IsOfSource source n
   pub leads : leads_below n.relative ≡ true
   pub links : Links
   pub file : Found
@@ -42,11 +49,11 @@ pub record IsAtName {I O : Type 0} (h : Host I O) (part output : List ℕ) (star
 
 -- these are all the bytes that a new output took of the job that the task has for such a file; that was done, of the
 -- input that was opened at its path; and the mode is what is left of that of the file
-pub record IsOutputOf {I O : Type 0} (h : Host I O) (reader : Reader I) (output : Writer O) (task : Task)
-    (part folder : List ℕ) (start : Tree) (mode : ℕ) (bytes : List ℕ) : Type 0 where
+pub record IsOutputOf {I O : Type 0} (h : Host I O) (reader : Reader I) (output : Writer O) (source : Source)
+    (task : Task) (part outputs : List ℕ) (start : Tree) (mode : ℕ) (bytes : List ℕ) : Type 0 where
   pub name : Named
   pub state : FileSystem
-  pub read : IsAtName h part folder start name state
+  pub read : IsAtName h source part outputs start name state
   pub mode_is : mode ≡ h.masked read.file.mode
   pub job : Job
   pub mid : FileSystem
@@ -69,17 +76,17 @@ NeverHalf {I} {O} {W} {E} F reader output rows errors =
     (h : Host I O) (run : TreeRun) (source : Source) (start : Tree) (manifest : W) (from : E) (status : ℕ) (left : W)
     (to : E) (after : FileSystem)
     → DoesTree (over {F = F} h reader output errors) rows run source manifest from (begins start) status left to after
-    → Always (NoneHalf h (IsOutputOf h reader output (task_of run.task) (part_path run) run.output.now start)
+    → Always (NoneHalf h (IsOutputOf h reader output source (task_of run.task) (part_path run) run.output.now start)
     (part_path run) start) after
 
 -- ---- the answer to its bytes
 
 -- these bytes are what a single run writes of those of the file, and the mode is what is left of that of the file
-pub record IsAnswerOf {I O : Type 0} (h : Host I O) (task : Task) (part output : List ℕ) (start : Tree) (mode : ℕ)
-    (bytes : List ℕ) : Type 0 where
+pub record IsAnswerOf {I O : Type 0} (h : Host I O) (source : Source) (task : Task) (part output : List ℕ) (start : Tree)
+    (mode : ℕ) (bytes : List ℕ) : Type 0 where
   pub name : Named
   pub state : FileSystem
-  pub read : IsAtName h part output start name state
+  pub read : IsAtName h source part output start name state
   pub mode_is : mode ≡ h.masked read.file.mode
   pub answered : (f : Found) → state.now.at (h.leads Followed name.path) ≡ Some f → f.kind ≡ kinds.File
       → IsAnswered task (state.now.bytes (number_of f)) bytes
@@ -91,7 +98,7 @@ NeverHalfOfBytes {I} {O} {W} {E} F reader output rows errors =
     (to : E) (after : FileSystem) → TellsAll h output
     → DoesTree (over {F = F} h (as_held h reader) output errors) rows run source manifest from (begins start) status
     left to after
-    → Always (NoneHalf h (IsAnswerOf h (task_of run.task) (part_path run) run.output.now start) (part_path run) start)
+    → Always (NoneHalf h (IsAnswerOf h source (task_of run.task) (part_path run) run.output.now start) (part_path run) start)
     after
 
 -- ---- the same of the words of the program
@@ -106,7 +113,7 @@ pub record IsOutputByWords {I O : Type 0} (h : Host I O) (reader : Reader I) (ou
     (start : Tree) (mode : ℕ) (bytes : List ℕ) : Type 0 where
   pub task : Task
   pub is_task : IsTaskOf t task
-  pub it : IsOutputOf h reader output task (part_of_tree t) t.plan.output start mode bytes
+  pub it : IsOutputOf h reader output t.source task (part_of_tree t) t.plan.output start mode bytes
 
 abbrev pub NeverHalfByWords : {I O E : Type 0} → (F : Type 0) → Reader I → Writer O → Writer E → Type 0
 NeverHalfByWords {I} {O} {E} F reader output errors =
