@@ -111,10 +111,11 @@ pub fn bytes_say_the_end()
 {}
 
 /// A run that names outputs by the instances in them does each file again. Where its output is there, with the same
-/// bytes, that is left, the row is `there`, and only what the job came to is told. What has no job, or is refused, or
-/// names no instance, ends so again. Where that is so of all names, all is at the end as it was. So it is after a first
-/// run each of whose files was written, or was there with the status 0, or ended so. The rows are those of the first
-/// run, but `there` for `written` and `unplaced`. It is said where no call fails that need not.
+/// bytes, that is left, the row is `there`, and only what the job came to is told. Where a file with other bytes is there,
+/// that is left too. What has no job, or is refused, or names no instance, ends so again. Where that is so of all names,
+/// all is at the end as it was. So it is after a first run each of whose files was written, or was there, be it with the
+/// status 0 or 4, or ended so. The rows are those of the first run, but `there` for `written` and `unplaced`. It is said
+/// where no call fails that need not.
 pub fn again_is_as_it_was<I: DeviceIn, O: DeviceOut, W: DeviceOut, E: DeviceOut, F>()
     ensures made { CopiesAreThere F I.DeviceIn O.DeviceOut W.DeviceOut E.DeviceOut }
     ensures made_by_list { CopiesAreThereOfList F I.DeviceIn O.DeviceOut W.DeviceOut E.DeviceOut }
