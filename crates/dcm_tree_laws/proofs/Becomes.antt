@@ -11,7 +11,7 @@ use Rattle.dcm_instance.specs.declared.names.Instance.{Instance}
 use Rattle.dcm_instance.specs.declared.names.NoInstance.{NoInstance}
 use Rattle.dcm_instance.specs.ReadInstance.{FileNames}
 use Rattle.dcm_instance.specs.Uids.{Uids, instance_name, uids_of}
-use Rattle.dcm_walk.specs.Names.{below}
+use Rattle.dcm_walk.specs.Names.{below, leads_below}
 use Rattle.dcm_walk.specs.Visits.{Named}
 use Rattle.dcm_walk.specs.declared.visitor.What.{What}
 use Rattle.dcm_walk.specs.declared.visitor.What.TheVariants.{File}
@@ -45,6 +45,7 @@ use Rattle.dcm_tree_laws.specs.Flows.{SameOutputs}
 use Rattle.dcm_tree_laws.specs.Single.{IsJobOf}
 use Rattle.dcm_tree_laws.specs.Stays.{IsOfOutput, within}
 use Rattle.dcm_tree_laws.proofs.Alike.{Changes, both_change, Keeps, new_keeps}
+use Rattle.dcm_tree_laws.proofs.Below.{file_leads, way_is_within}
 use Rattle.dcm_tree_laws.proofs.CopyLeft.{WholeAt, whole_at}
 use Rattle.dcm_tree_laws.proofs.Ends.{comes_once, one_instance, has_days}
 use Rattle.dcm_tree_laws.proofs.Files.{path_is}
@@ -54,7 +55,6 @@ use Rattle.dcm_tree_laws.proofs.Left.{same_mode}
 use Rattle.dcm_tree_laws.proofs.Looking as looking
 use Rattle.dcm_tree_laws.proofs.Onwards.{IsFileAt}
 use Rattle.dcm_tree_laws.proofs.Placing.{Gives, gives, gives_keeps, gives_stay, gives_file, NamedAlike, IsPlaced, gives_once, Copied, copied, copied_once}
-use Rattle.dcm_tree_laws.proofs.Ways.{way_is_of_output}
 use Rattle.dcm_tree_laws.proofs.Working.{working_also, IsOpened, is_opened, not_unopened, JobIs, job_found, HasDone, job_done, PartMade, part_made, instance_found}
 use Rattle.dcm_tree_laws.proofs.Works as works
 
@@ -127,29 +127,29 @@ naming_once : (n k : Naming) (fate : Fate) (one other : Bool) → n ≡ k → on
 naming_once n k fate one other is same = ap (λ (x : Naming). naming_fate x fate one) is ∙ ap (λ (b : Bool). naming_fate k fate b) same
 
 module _ {I O : Type 0} (h : Host I O) (output part : List ℕ) (of_output : IsOfOutput output part) (held : List ℕ) (fate : Fate) where
-  places_once : (path relative : List ℕ) → path ≡ below output relative → (s u : FileSystem) (one other : Fate) (v w : FileSystem) → SameOutputs h output s.now u.now → PlacesAs h output part held path fate s one v → PlacesAs h output part held path fate u other w → BecomeAlike h output one other v w
-  places_once path relative is s u one other v w same x y =
+  places_once : (path relative : List ℕ) → path ≡ below output relative → leads_below relative ≡ true → (s u : FileSystem) (one other : Fate) (v w : FileSystem) → SameOutputs h output s.now u.now → PlacesAs h output part held path fate s one v → PlacesAs h output part held path fate u other w → BecomeAlike h output one other v w
+  places_once path relative is leads s u one other v w same x y =
       let placed : IsPlaced output part path (length output + 1) = record {
         part_of = of_output;
-        path_of = within relative is;
-        way_of = λ k least. way_is_of_output output relative path k is least;
+        path_of = within relative leads is;
+        way_of = λ at size least slash. way_is_within output relative path is leads at size least slash;
       } in
       let named : NamedAlike h output x.naming y.naming x.named y.named = gives_once h output part path (length output + 1) s u x.naming y.naming x.named y.named placed same x.given y.given in
-      let copy : x.same ≡ y.same = copied_once h output path held x.named y.named x.naming y.naming x.same y.same (within relative is) named x.copy y.copy in
+      let copy : x.same ≡ y.same = copied_once h output path held x.named y.named x.naming y.naming x.same y.same (within relative leads is) named x.copy y.copy in
       both_gone h output part one other x.named y.named v w (x.becomes ∙ naming_once x.naming y.naming fate x.same y.same named.naming copy ∙ sym y.becomes) named.same x.gone y.gone
 
-  places_in_once : (name : List ℕ) (o : Option (List ℕ)) → path_in output name ≡ o → (s u : FileSystem) (one other : Fate) (v w : FileSystem) → SameOutputs h output s.now u.now → PlacesIn h output part held fate s one v o → PlacesIn h output part held fate u other w o → BecomeAlike h output one other v w
-  places_in_once name None is s u one other v w same x y = both_gone h output part one other s u v w (x.0 ∙ sym y.0) same x.1 y.1
-  places_in_once name (Some path) is s u one other v w same x y = places_once path name (path_is output name path is) s u one other v w same x y
+  places_in_once : (name : List ℕ) (o : Option (List ℕ)) → path_in output name ≡ o → leads_below name ≡ true → (s u : FileSystem) (one other : Fate) (v w : FileSystem) → SameOutputs h output s.now u.now → PlacesIn h output part held fate s one v o → PlacesIn h output part held fate u other w o → BecomeAlike h output one other v w
+  places_in_once name None is leads s u one other v w same x y = both_gone h output part one other s u v w (x.0 ∙ sym y.0) same x.1 y.1
+  places_in_once name (Some path) is leads s u one other v w same x y = places_once path name (path_is output name path is) leads s u one other v w same x y
 
-  named_once : (answer : Result Uids NoInstance) (s u : FileSystem) (one other : Fate) (v w : FileSystem) → SameOutputs h output s.now u.now → NamedBy h output part held fate s one v answer → NamedBy h output part held fate u other w answer → BecomeAlike h output one other v w
-  named_once (Err cause) s u one other v w same x y = both_gone h output part one other s u v w (x.0 ∙ sym y.0) same x.1 y.1
-  named_once (Ok uids) s u one other v w same x y = places_in_once (instance_name uids) (path_in output (instance_name uids)) refl s u one other v w same x y
+  named_once : (answer : Result Uids NoInstance) → FileNames held answer → (s u : FileSystem) (one other : Fate) (v w : FileSystem) → SameOutputs h output s.now u.now → NamedBy h output part held fate s one v answer → NamedBy h output part held fate u other w answer → BecomeAlike h output one other v w
+  named_once (Err cause) names s u one other v w same x y = both_gone h output part one other s u v w (x.0 ∙ sym y.0) same x.1 y.1
+  named_once (Ok uids) names s u one other v w same x y = places_in_once (instance_name uids) (path_in output (instance_name uids)) refl (file_leads held uids names) s u one other v w same x y
 
   ends_once : (written : Bool) (s u : FileSystem) (one other : Fate) (v w : FileSystem) → SameOutputs h output s.now u.now → EndsBy h output part held fate s one v written → EndsBy h output part held fate u other w written → BecomeAlike h output one other v w
   ends_once false s u one other v w same x y = both_gone h output part one other s u v w (x.0 ∙ sym y.0) same x.1 y.1
   ends_once true s u one other v w same x y =
-      named_once x.answer s u one other v w same x.by (subst (NamedBy h output part held fate u other w) (one_instance held y.answer x.answer y.names x.names) y.by)
+      named_once x.answer x.names s u one other v w same x.by (subst (NamedBy h output part held fate u other w) (one_instance held y.answer x.answer y.names x.names) y.by)
 
 filled_once : {I O : Type 0} (h : Host I O) (output part : List ℕ) (mode : ℕ) (held : List ℕ) (s u v w : FileSystem) → SameOutputs h output s.now u.now → Filled h part mode held s v → Filled h part mode held u w → SameOutputs h output v.now w.now
 filled_once h output part mode held s u v w same x y =

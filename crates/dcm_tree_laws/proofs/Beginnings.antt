@@ -9,9 +9,8 @@ use Rattle.dcm_trees.specs.declared.beginning.Refusal.{Refusal}
 use Rattle.dcm_trees.specs.Beginning as spec
 use Rattle.dcm_trees.specs.Beginning.{Looks, Numbers, Climbed, Climbs, IsThere, MakesFolder, NumbersFolder, MakesOutput, Compares, MakesApart, HasOutput, ChecksPart, ChecksEmpty, ChecksNew, ChecksUse, Begins, parent_of}
 use Rattle.dcm_tree_laws.specs.FileSystem.{FileSystem, Host, folders_do}
-use Rattle.dcm_tree_laws.specs.Stays.{itself}
 use Rattle.dcm_tree_laws.proofs.Quiet.{Quiet, are_quiet}
-use Rattle.dcm_tree_laws.proofs.Steps.{Phase, is_writing, Steps, folder, goes_on, one, quiet}
+use Rattle.dcm_tree_laws.proofs.Steps.{Phase, is_writing, StepsIn, folder, goes_on, one, quiet}
 
 pub looks : {S O F : Type 0} (d : FoldersDo S O F) → Quiet d → (path : List ℕ) (before : S) (r : Result (Option Found) Refusal) (after : S) → Looks d path before r after → after ≡ before
 looks d q path before r after (spec.no_text t is same) = same
@@ -81,47 +80,47 @@ checks_use d q output continues before r after (spec.is_new c n) = checks_new d 
 
 -- ---- the folder of the outputs
 
-makes_folder : {I O F : Type 0} (h : Host I O) (IsWhole : ℕ → List ℕ → Type 0) (part output : List ℕ) (at : Phase) → is_writing at ≡ false → (before : FileSystem) (r : Result (Unit {0}) Refusal) (after : FileSystem)
-    → MakesFolder (folders_do {F = F} h) output before r after → Steps h IsWhole part output at before at after
-makes_folder h IsWhole part output at rest before r after (spec.no_text t is same) = quiet same
-makes_folder h IsWhole part output at rest before r after (spec.made t call is) = one (folder output rest (itself refl) call refl)
-makes_folder h IsWhole part output at rest before r after (spec.was_there e t call k is) = quiet call
-makes_folder h IsWhole part output at rest before r after (spec.not_made e t call k is) = quiet call
+makes_folder : {I O F : Type 0} (h : Host I O) (IsWhole : ℕ → List ℕ → Type 0) (part output : List ℕ) (Of : List ℕ → Type 0) → Of output → (at : Phase) → is_writing at ≡ false → (before : FileSystem) (r : Result (Unit {0}) Refusal) (after : FileSystem)
+    → MakesFolder (folders_do {F = F} h) output before r after → StepsIn h IsWhole part Of at before at after
+makes_folder h IsWhole part output Of to at rest before r after (spec.no_text t is same) = quiet same
+makes_folder h IsWhole part output Of to at rest before r after (spec.made t call is) = one (folder output rest to call refl)
+makes_folder h IsWhole part output Of to at rest before r after (spec.was_there e t call k is) = quiet call
+makes_folder h IsWhole part output Of to at rest before r after (spec.not_made e t call k is) = quiet call
 
-makes_output : {I O F : Type 0} (h : Host I O) (IsWhole : ℕ → List ℕ → Type 0) (part output : List ℕ) (at : Phase) → is_writing at ≡ false → (before : FileSystem) (r : Result FolderNumber Refusal) (after : FileSystem)
-    → MakesOutput (folders_do {F = F} h) output before r after → Steps h IsWhole part output at before at after
-makes_output {I} {O} {F} h IsWhole part output at rest before r after (spec.not_made refusal m is) = makes_folder {F = F} h IsWhole part output at rest before (Err refusal) after m
-makes_output {I} {O} {F} h IsWhole part output at rest before r after (spec.made mid m n) =
-    goes_on (makes_folder {F = F} h IsWhole part output at rest before (Ok _) mid m) (quiet (numbers_folder (folders_do {F = F} h) (are_quiet h) output mid r after n))
+makes_output : {I O F : Type 0} (h : Host I O) (IsWhole : ℕ → List ℕ → Type 0) (part output : List ℕ) (Of : List ℕ → Type 0) → Of output → (at : Phase) → is_writing at ≡ false → (before : FileSystem) (r : Result FolderNumber Refusal) (after : FileSystem)
+    → MakesOutput (folders_do {F = F} h) output before r after → StepsIn h IsWhole part Of at before at after
+makes_output {I} {O} {F} h IsWhole part output Of to at rest before r after (spec.not_made refusal m is) = makes_folder {F = F} h IsWhole part output Of to at rest before (Err refusal) after m
+makes_output {I} {O} {F} h IsWhole part output Of to at rest before r after (spec.made mid m n) =
+    goes_on (makes_folder {F = F} h IsWhole part output Of to at rest before (Ok _) mid m) (quiet (numbers_folder (folders_do {F = F} h) (are_quiet h) output mid r after n))
 
-makes_apart : {I O F : Type 0} (h : Host I O) (IsWhole : ℕ → List ℕ → Type 0) (part output : List ℕ) (at : Phase) → is_writing at ≡ false → (input : List ℕ) (is_list : Bool) (before : FileSystem) (r : Result FolderNumber Refusal) (after : FileSystem)
-    → MakesApart (folders_do {F = F} h) input is_list output before r after → Steps h IsWhole part output at before at after
-makes_apart {I} {O} {F} h IsWhole part output at rest input is_list before r after (spec.not_numbered refusal n is) = quiet (numbers (folders_do {F = F} h) (are_quiet h) input before (Err refusal) after n)
-makes_apart {I} {O} {F} h IsWhole part output at rest input is_list before r after (spec.not_climbed read refusal mid n c is) =
+makes_apart : {I O F : Type 0} (h : Host I O) (IsWhole : ℕ → List ℕ → Type 0) (part output : List ℕ) (Of : List ℕ → Type 0) → Of output → (at : Phase) → is_writing at ≡ false → (input : List ℕ) (is_list : Bool) (before : FileSystem) (r : Result FolderNumber Refusal) (after : FileSystem)
+    → MakesApart (folders_do {F = F} h) input is_list output before r after → StepsIn h IsWhole part Of at before at after
+makes_apart {I} {O} {F} h IsWhole part output Of to at rest input is_list before r after (spec.not_numbered refusal n is) = quiet (numbers (folders_do {F = F} h) (are_quiet h) input before (Err refusal) after n)
+makes_apart {I} {O} {F} h IsWhole part output Of to at rest input is_list before r after (spec.not_climbed read refusal mid n c is) =
     quiet (climbs (folders_do {F = F} h) (are_quiet h) (parent_of output) read mid (Err refusal) after c ∙ numbers (folders_do {F = F} h) (are_quiet h) input before (Ok read) mid n)
-makes_apart {I} {O} {F} h IsWhole part output at rest input is_list before r after (spec.within read way mid n c k is) =
+makes_apart {I} {O} {F} h IsWhole part output Of to at rest input is_list before r after (spec.within read way mid n c k is) =
     quiet (climbs (folders_do {F = F} h) (are_quiet h) (parent_of output) read mid (Ok way) after c ∙ numbers (folders_do {F = F} h) (are_quiet h) input before (Ok read) mid n)
-makes_apart {I} {O} {F} h IsWhole part output at rest input is_list before r after (spec.made read way mid was n c k m) =
+makes_apart {I} {O} {F} h IsWhole part output Of to at rest input is_list before r after (spec.made read way mid was n c k m) =
     goes_on (quiet (climbs (folders_do {F = F} h) (are_quiet h) (parent_of output) read mid (Ok way) was c ∙ numbers (folders_do {F = F} h) (are_quiet h) input before (Ok read) mid n))
-    (makes_output {F = F} h IsWhole part output at rest was r after m)
+    (makes_output {F = F} h IsWhole part output Of to at rest was r after m)
 
-has_output : {I O F : Type 0} (h : Host I O) (IsWhole : ℕ → List ℕ → Type 0) (part output : List ℕ) (at : Phase) → is_writing at ≡ false → (input : List ℕ) (is_list : Bool) (before : FileSystem) (r : Result FolderNumber Refusal) (after : FileSystem)
-    → HasOutput (folders_do {F = F} h) input is_list output before r after → Steps h IsWhole part output at before at after
-has_output {I} {O} {F} h IsWhole part output at rest input is_list before r after (spec.not_looked refusal l is) = quiet (is_there (folders_do {F = F} h) (are_quiet h) output before (Err refusal) after l)
-has_output {I} {O} {F} h IsWhole part output at rest input is_list before r after (spec.was_there looked l c) =
+has_output : {I O F : Type 0} (h : Host I O) (IsWhole : ℕ → List ℕ → Type 0) (part output : List ℕ) (Of : List ℕ → Type 0) → Of output → (at : Phase) → is_writing at ≡ false → (input : List ℕ) (is_list : Bool) (before : FileSystem) (r : Result FolderNumber Refusal) (after : FileSystem)
+    → HasOutput (folders_do {F = F} h) input is_list output before r after → StepsIn h IsWhole part Of at before at after
+has_output {I} {O} {F} h IsWhole part output Of to at rest input is_list before r after (spec.not_looked refusal l is) = quiet (is_there (folders_do {F = F} h) (are_quiet h) output before (Err refusal) after l)
+has_output {I} {O} {F} h IsWhole part output Of to at rest input is_list before r after (spec.was_there looked l c) =
     quiet (compares (folders_do {F = F} h) (are_quiet h) input is_list output looked r after c ∙ is_there (folders_do {F = F} h) (are_quiet h) output before (Ok true) looked l)
-has_output {I} {O} {F} h IsWhole part output at rest input is_list before r after (spec.not_there looked l m) =
-    goes_on (quiet (is_there (folders_do {F = F} h) (are_quiet h) output before (Ok false) looked l)) (makes_apart {F = F} h IsWhole part output at rest input is_list looked r after m)
+has_output {I} {O} {F} h IsWhole part output Of to at rest input is_list before r after (spec.not_there looked l m) =
+    goes_on (quiet (is_there (folders_do {F = F} h) (are_quiet h) output before (Ok false) looked l)) (makes_apart {F = F} h IsWhole part output Of to at rest input is_list looked r after m)
 
-pub begins_by : {I O F : Type 0} (h : Host I O) (IsWhole : ℕ → List ℕ → Type 0) (part output : List ℕ) (at : Phase) → is_writing at ≡ false → (input : List ℕ) (is_list : Bool) (name : List ℕ) (continues : Bool) (before : FileSystem) (r : Result Begun Refusal) (after : FileSystem)
-    → Begins (folders_do {F = F} h) input is_list output name continues before r after → Steps h IsWhole part output at before at after
-begins_by {I} {O} {F} h IsWhole part output at rest input is_list name continues before r after (spec.no_output refusal has is) = has_output {F = F} h IsWhole part output at rest input is_list before (Err refusal) after has
-begins_by {I} {O} {F} h IsWhole part output at rest input is_list name continues before r after (spec.no_part number refusal has p is) = has_output {F = F} h IsWhole part output at rest input is_list before (Ok number) after has
-begins_by {I} {O} {F} h IsWhole part output at rest input is_list name continues before r after (spec.has_part number path refusal mid has p c is) =
-    goes_on (has_output {F = F} h IsWhole part output at rest input is_list before (Ok number) mid has) (quiet (checks_part (folders_do {F = F} h) (are_quiet h) path.items mid (Err refusal) after c))
-begins_by {I} {O} {F} h IsWhole part output at rest input is_list name continues before r after (spec.in_use number path refusal mid checked has p c u is) =
-    goes_on (has_output {F = F} h IsWhole part output at rest input is_list before (Ok number) mid has)
+pub begins_by : {I O F : Type 0} (h : Host I O) (IsWhole : ℕ → List ℕ → Type 0) (part output : List ℕ) (Of : List ℕ → Type 0) → Of output → (at : Phase) → is_writing at ≡ false → (input : List ℕ) (is_list : Bool) (name : List ℕ) (continues : Bool) (before : FileSystem) (r : Result Begun Refusal) (after : FileSystem)
+    → Begins (folders_do {F = F} h) input is_list output name continues before r after → StepsIn h IsWhole part Of at before at after
+begins_by {I} {O} {F} h IsWhole part output Of to at rest input is_list name continues before r after (spec.no_output refusal has is) = has_output {F = F} h IsWhole part output Of to at rest input is_list before (Err refusal) after has
+begins_by {I} {O} {F} h IsWhole part output Of to at rest input is_list name continues before r after (spec.no_part number refusal has p is) = has_output {F = F} h IsWhole part output Of to at rest input is_list before (Ok number) after has
+begins_by {I} {O} {F} h IsWhole part output Of to at rest input is_list name continues before r after (spec.has_part number path refusal mid has p c is) =
+    goes_on (has_output {F = F} h IsWhole part output Of to at rest input is_list before (Ok number) mid has) (quiet (checks_part (folders_do {F = F} h) (are_quiet h) path.items mid (Err refusal) after c))
+begins_by {I} {O} {F} h IsWhole part output Of to at rest input is_list name continues before r after (spec.in_use number path refusal mid checked has p c u is) =
+    goes_on (has_output {F = F} h IsWhole part output Of to at rest input is_list before (Ok number) mid has)
     (quiet (checks_use (folders_do {F = F} h) (are_quiet h) output continues checked (Err refusal) after u ∙ checks_part (folders_do {F = F} h) (are_quiet h) path.items mid (Ok _) checked c))
-begins_by {I} {O} {F} h IsWhole part output at rest input is_list name continues before r after (spec.begun number path mid checked has p c u is) =
-    goes_on (has_output {F = F} h IsWhole part output at rest input is_list before (Ok number) mid has)
+begins_by {I} {O} {F} h IsWhole part output Of to at rest input is_list name continues before r after (spec.begun number path mid checked has p c u is) =
+    goes_on (has_output {F = F} h IsWhole part output Of to at rest input is_list before (Ok number) mid has)
     (quiet (checks_use (folders_do {F = F} h) (are_quiet h) output continues checked (Ok _) after u ∙ checks_part (folders_do {F = F} h) (are_quiet h) path.items mid (Ok _) checked c))

@@ -9,7 +9,7 @@ use Rattle.dcm_trees.specs.Share.{is_of}
 use Rattle.dcm_trees.specs.Task.{Task, task_of}
 use Rattle.dcm_trees.specs.Work.{row, output_of}
 use Rattle.dcm_tree_laws.specs.Again.{OfAll}
-use Rattle.dcm_tree_laws.specs.Copied.{FileWasThere, FileIsSettled, WasCopied, rows_again, SecondIsAsItWas, SecondIsAsItWasOfList}
+use Rattle.dcm_tree_laws.specs.Copied.{FileWasThere, FileIsSettledAs, WasCopied, rows_again, SecondIsAsItWas, SecondIsAsItWasOfList}
 use Rattle.dcm_tree_laws.specs.Copies.{again, SameRow, WasDoneAgain, StandsThere}
 use Rattle.dcm_tree_laws.specs.FileSystem.{Tree, Host}
 use Rattle.dcm_tree_laws.specs.Laws.{part_path}
@@ -22,7 +22,7 @@ use Rattle.dcm_tree_laws.proofs.TwiceBy.{one_more, of_other_share}
 -- ---- what stands
 
 -- what each row of a first run says
-all_stand : {I O : Type 0} (h : Host I O) (task : Task) (own output : List ℕ) (start now : Tree) (shared : Shared) (visits : List Visit) (text : List ℕ) (rows : RowsOf (WasCopied h task own output start now) shared visits text) → OfRows (FileIsSettled h own output) rows → OfAll (FileWasThere h start) visits
+all_stand : {I O : Type 0} (h : Host I O) (task : Task) (own output : List ℕ) (start now : Tree) (shared : Shared) (visits : List Visit) (text : List ℕ) (rows : RowsOf (WasCopied h task own output start now) shared visits text) → OfRows (FileIsSettledAs h own output) rows → OfAll (FileWasThere h start) visits
     → OfAll (StandsThere h task output now shared) visits
 all_stand h task own output start now shared visits text (no_visit v t) settled files = subst (OfAll (StandsThere h task output now shared)) (sym v) tt
 all_stand h task own output start now shared visits text (of_another earlier v rows none more) settled files =
@@ -78,7 +78,7 @@ pub both_rows : (a b c d : List ℕ) → a ≡ b → c ≡ d → a ++ c ≡ b ++
 both_rows a b c d e f = cc
 
 module _ {I O : Type 0} (h : Host I O) (task : Task) (own output : List ℕ) (start now : Tree) (a b : Shared) (same : b.part ≡ a.part) where
-  rows_same : (visits others : List Visit) (text other : List ℕ) (x : RowsOf (WasCopied h task own output start now) a visits text) → RowsOf (WasDoneAgain h task output now) b others other → others ≡ visits → OfRows (FileIsSettled h own output) x → OfAll (FileWasThere h start) visits → other ≡ rows_again x
+  rows_same : (visits others : List Visit) (text other : List ℕ) (x : RowsOf (WasCopied h task own output start now) a visits text) → RowsOf (WasDoneAgain h task output now) b others other → others ≡ visits → OfRows (FileIsSettledAs h own output) x → OfAll (FileWasThere h start) visits → other ≡ rows_again x
   rows_same visits others text other (no_visit v t) (no_visit w u) names settled files = u
   rows_same visits others text other (no_visit v t) (of_another earlier w rows none more) names settled files = no_last others earlier w (names ∙ v) more
   rows_same visits others text other (no_visit v t) (and_row earlier rest w done rows share so more is) names settled files = no_last others earlier w (names ∙ v) more
@@ -107,7 +107,7 @@ module _ {I O : Type 0} (h : Host I O) (task : Task) (own output : List ℕ) (st
 
 -- over a folder or a list
 module _ {I O : Type 0} (h : Host I O) (task again_task : Task) (own output again_output : List ℕ) (start mid : Tree) (a b : Shared) (tasks : again_task ≡ task) (outputs : again_output ≡ output) (part : b.part ≡ a.part) (visits others : List Visit) (names : others ≡ visits) (text other : List ℕ)
-    (x : RowsOf (WasCopied h task own output start mid) a visits text) (settled : OfRows (FileIsSettled h own output) x) (files : OfAll (FileWasThere h start) visits) where
+    (x : RowsOf (WasCopied h task own output start mid) a visits text) (settled : OfRows (FileIsSettledAs h own output) x) (files : OfAll (FileWasThere h start) visits) where
   stand_again : OfAll (StandsThere h again_task again_output mid b) others
   stand_again =
       subst (OfAll (StandsThere h again_task again_output mid b)) (sym names)

@@ -1,6 +1,7 @@
 -- A run that names outputs by the instances in them leaves the copies that are there, and all as it was where all are.
-use Rattle.std.proofs.Common.{◌≡◌, ◌∙◌, refl, sym, ap, subst, ℕ, List, [], ◌∷◌, ◌++◌, Bool, true, false, Option, Some, None, Result, Ok, Err}
+use Rattle.std.proofs.Common.{◌≡◌, ◌∙◌, refl, sym, ap, subst, ℕ, ◌≤◌, List, length, [], ◌∷◌, ◌++◌, Bool, true, false, Option, Some, None, Result, Ok, Err}
 use Rattle.std.specs.Prelude.{◌≢◌, if◌then◌else◌}
+use Rattle.dcm_base.specs.Reading.Reads.{INPUT_LIMIT}
 use Rattle.std.specs.Str.{IsUtf8}
 use Rattle.dcm_devices.specs.Writing.{Writer}
 use Rattle.dcm_files.specs.declared.folders.Found.{Found}
@@ -30,15 +31,15 @@ use Rattle.dcm_trees.specs.Task.{Task, task_of}
 use Rattle.dcm_trees.specs.Work as spec
 use Rattle.dcm_trees.specs.Work.{Progress, VisitsName, progress, output_of, name_in, visits_of}
 use Rattle.dcm_tree_laws.specs.Again.{sure, OfAll}
-use Rattle.dcm_tree_laws.specs.Copies.{HasCopy, IsAsItWas, IsNamedBy, IsThereAs, IsDoneAgain, EndsUnnamed, IsUnnamedAgain, Stands, of_copy, unnamed, an_index, no_file, fate_again, again, SameRow, WasDoneAgain, StandsThere, AgainIsAsItWas, AgainIsAsItWasOfList}
+use Rattle.dcm_tree_laws.specs.Copies.{HasCopy, IsAsItWas, IsNamedBy, IsThereAs, IsDoneAgain, EndsUnnamed, IsUnnamedAgain, Stands, of_copy, unnamed, an_index, no_file, fate_again, again, SameRow, WasDoneAgain, StandsThere, AgainIsAsItWas, AgainIsAsItWasOfList, HasOther, of_other}
 use Rattle.dcm_tree_laws.specs.Determined.{FileAt, FollowsLinks, FilesFit, ComesTo, as_whole, working, working_folders}
-use Rattle.dcm_tree_laws.specs.FileSystem.{FileSystem, Tree, Host, place_of, at_path, may_do, folders_do}
+use Rattle.dcm_tree_laws.specs.FileSystem.{FileSystem, Tree, Host, place_of, at_path, may_do, folders_do, number_of}
 use Rattle.dcm_tree_laws.specs.Laws.{IsOutput, over, part_path}
 use Rattle.dcm_tree_laws.specs.Part.{LeavesPart}
 use Rattle.dcm_tree_laws.specs.Rows.{Visit, noted}
 use Rattle.dcm_tree_laws.specs.Single.{TellsAll}
-use Rattle.dcm_tree_laws.specs.Stays.{IsOfOutput}
-use Rattle.dcm_tree_laws.proofs.CopyLeft.{leads_by, copy_again, none_other}
+use Rattle.dcm_tree_laws.proofs.Near.{IsNear}
+use Rattle.dcm_tree_laws.proofs.CopyLeft.{leads_by, copy_again, none_other, no_link, other_again as other_met, IsMetAgain, IsMetAs}
 use Rattle.dcm_tree_laws.proofs.CopyMade.{by_name}
 use Rattle.dcm_tree_laws.proofs.Given.{none_some}
 use Rattle.dcm_tree_laws.proofs.Left.{sure_quiet}
@@ -105,6 +106,24 @@ copy_stays h task part output path uids start now none still c = record {
       (apart_by start (place_of h (below output (instance_name uids))) (place_of h part) c.there.file.found none c.there.file.is) c.there.file.is ∙ c.same;
 }
 
+abbrev other_stays : {I O : Type 0} (h : Host I O) (task : Task) (part output path : List ℕ) (uids : Uids) (start now : Tree) → at_path h start part ≡ None → Still h part start now → HasOther h task output start path uids → HasOther h task output now path uids
+other_stays h task part output path uids start now none still c = record {
+  text = c.text;
+  input = record {
+    file = c.input.file;
+    is = still.there (h.leads Followed path) c.input.file (apart_by start (h.leads Followed path) (place_of h part) c.input.file none c.input.is) c.input.is;
+    kind = c.input.kind;
+  };
+  made = c.made;
+  verdict = c.verdict;
+  comes = subst (λ (b : List ℕ). ComesTo task b c.made c.verdict) (sym (still.bytes (h.leads Followed path) c.input.file (apart_by start (h.leads Followed path) (place_of h part) c.input.file none c.input.is) c.input.is)) c.comes;
+  is_done = c.is_done;
+  names = c.names;
+  there = there_stays h part output (instance_name uids) start now none still c.there;
+  other = λ fits. subst (λ (b : List ℕ). b ≢ c.made) (sym (still.bytes (place_of h (below output (instance_name uids))) c.there.file.found
+      (apart_by start (place_of h (below output (instance_name uids))) (place_of h part) c.there.file.found none c.there.file.is) c.there.file.is)) (c.other fits);
+}
+
 -- ---- a name
 
 -- what is known of it by its state
@@ -122,6 +141,20 @@ done_again : {I O F E : Type 0} (h : Host I O) (r : Reader I) (w : Writer O) (e 
 done_again {I} {O} {F} h r w e k n mode uids start from before result to after x none no_index c does gone =
     copy_again {F = F} h r w e k n mode uids from before result to after x.tells x.by no_index none (copy_stays h k.task k.part k.output n.path uids start before.now x.none x.still c)
     (leads_by h k.part k.output start uids c.made x.follows x.fits x.text x.none c.there c.same) does gone
+
+-- another file has not more bytes than an input may have, so that what is written is not the same
+others_are : {I O : Type 0} (h : Host I O) (task : Task) (output path : List ℕ) (uids : Uids) (t : Tree) → FilesFit t → (c : HasOther h task output t path uids) → t.bytes (number_of c.there.file.found) ≢ c.made
+others_are h task output path uids t fits c = λ equal. c.other (subst (λ (b : List ℕ). length b ≤ INPUT_LIMIT) equal (fits (place_of h (below output (instance_name uids))) c.there.file.found c.there.file.is)) equal
+
+other_done : {I O F E : Type 0} (h : Host I O) (r : Reader I) (w : Writer O) (e : Writer E) (k : Manner) (n : Named) (mode : ℕ) (uids : Uids) (start : Tree) (from : E) (before : FileSystem) (result : Result Done RunStop) (to : E) (after : FileSystem) → Known h w k start before.now
+    → at_path h before.now k.part ≡ None → is_media_index n.relative ≡ false → (c : HasOther h k.task k.output start n.path uids) → DoesName (working {F = F} h r w e) k n (File mode) from before result to after → after.unremoved ≡ false → IsMetAgain e false n uids c.verdict from before result to after
+other_done {I} {O} {F} h r w e k n mode uids start from before result to after x none no_index c does gone =
+    other_met {F = F} h r w e k n mode uids from before result to after x.tells x.by no_index x.text none (x.follows k.part (none_other h start k.part x.none))
+    (other_stays h k.task k.part k.output n.path uids start before.now x.none x.still c)
+    (x.follows (below k.output (instance_name uids)) (λ f at. no_link (at_path h start (below k.output (instance_name uids))) c.there.file.found f c.there.file.is c.there.file.kind_is at))
+    (subst (λ (b : List ℕ). b ≢ c.made) (sym (x.still.bytes (place_of h (below k.output (instance_name uids))) c.there.file.found
+    (apart_by start (place_of h (below k.output (instance_name uids))) (place_of h k.part) c.there.file.found x.none c.there.file.is) c.there.file.is)) (others_are h k.task k.output n.path uids start x.fits c))
+    does gone
 
 -- ---- its row
 
@@ -164,6 +197,20 @@ copy_row n done first uids there named its =
       word_is = ap word there.fate_is ∙ sym (ap word its);
     }
 
+-- of another file that is there
+cell_met : (n : Named) (done : Done) (uids : Uids) → done.fate ≡ fates.Occupied → IsNamedBy uids done → output_of n done ≡ Some (instance_name uids)
+cell_met n done uids is named =
+    ap (λ (f : Fate). if has_output f then Some (name_in n.relative done.instance) else None) is
+    ∙ ap Some (by_name n.relative done.instance named.relative (instance_name uids) named.instance_is named.relative_is)
+
+other_row : (n : Named) (done first : Done) (uids : Uids) → IsMetAs false uids done → IsNamedBy uids first → first.fate ≡ fates.Occupied → SameRow n done (again first)
+other_row n done first uids met named its =
+    let same : fate_again first.fate ≡ fates.Occupied = ap fate_again its in
+    record {
+      output_is = cell_met n done uids met.fate_is met.named ∙ sym (cell_met n (again first) uids same (record { relative = named.relative; instance_is = named.instance_is; relative_is = named.relative_is }));
+      word_is = ap word met.fate_is ∙ sym (ap word same);
+    }
+
 -- of a name without an output
 nameless_row : (n : Named) (done first : Done) (fate : Fate) → done ≡ without_name fate → first ≡ without_name fate → is_written fate ≡ false → SameRow n done (again first)
 nameless_row n done first fate is was not =
@@ -198,6 +245,10 @@ file_again {I} {O} {F} h r w e k n what first start mode from before result to a
     let again : IsDoneAgain e n c.uids c.copy.verdict from before result to after =
     done_again {F = F} h r w e k n mode c.uids start from before result to after x none index c.copy (files.a_file mode refl does) gone in
     record { same = again.same; row = λ done ok. copy_row n done first c.uids (subst (IsThereAs c.uids) (same_ok result done again.done ok again.row) again.there) c.named written }
+file_again {I} {O} {F} h r w e k n what first start mode from before result to after x none (of_other other is index occupied c) file does gone =
+    let again : IsMetAgain e false n c.uids c.met.verdict from before result to after =
+    other_done {F = F} h r w e k n mode c.uids start from before result to after x none index c.met (files.a_file mode refl does) gone in
+    record { same = again.same; row = λ done ok. other_row n done first c.uids (subst (IsMetAs false c.uids) (same_ok result done again.done ok again.row) again.there) c.named occupied }
 file_again {I} {O} {F} h r w e k n what first start mode from before result to after x none (unnamed other is index f ends not nameless) file does gone =
     let now : FileAt h Followed before.now n.path = file_still h k.part n.path start before.now x.none x.still f.file in
     let u : IsUnnamedAgain first.fate before result after =
@@ -212,6 +263,7 @@ file_again h r w e k n what first start mode from before result to after x none 
 -- what is no file has no output
 no_file_first : {I O : Type 0} (h : Host I O) (task : Task) (output : List ℕ) (t : Tree) (n : Named) (what : What) (first : Done) → ((mode : ℕ) → what ≢ File mode) → Stands h task output t (visit_of n what) first → first ≡ without_name (fate_of what)
 no_file_first h task output t n what first other (of_copy mode is index written c) = absurd (other mode is)
+no_file_first h task output t n what first other (of_other mode is index occupied c) = absurd (other mode is)
 no_file_first h task output t n what first other (unnamed mode is index f ends not nameless) = absurd (other mode is)
 no_file_first h task output t n what first other (an_index mode is index d) = absurd (other mode is)
 no_file_first h task output t n what first other (no_file others d) = d
@@ -237,7 +289,7 @@ visit_same {I} {O} {F} h r w e m shared start from told_before before n what res
 
 -- how they are done
 record Goes {I O : Type 0} (h : Host I O) (w : Writer O) (start : Tree) (k : Manner) : Type 0 where
-  of_output : IsOfOutput k.output k.part
+  of_output : IsNear k.output k.part
   tells : TellsAll h w
   by : k.keeps_names ≡ false
   text : IsUtf8 k.part

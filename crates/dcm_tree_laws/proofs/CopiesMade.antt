@@ -1,6 +1,8 @@
 -- What a run wrote by the instances in its outputs is there for one after it.
 use Rattle.std.proofs.Common.{◌≡◌, ◌∙◌, refl, sym, ap, subst, ℕ, List, [], Bool, true, false, None, Ok}
 use Rattle.std.specs.Prelude.{◌≢◌}
+use Rattle.std.specs.Str.{IsUtf8}
+use Rattle.dcm_instance.specs.Uids.{instance_name}
 use Rattle.dcm_devices.specs.Writing.{Writer}
 use Rattle.dcm_files.specs.declared.folders.Links.TheVariants.{Followed}
 use Rattle.dcm_walk.specs.Visits.{Named}
@@ -19,17 +21,17 @@ use Rattle.dcm_trees.specs.File.{DoesName, is_media_index}
 use Rattle.dcm_trees.specs.Instance.{DoesUnnamed, without_name}
 use Rattle.dcm_trees.specs.Manner.{Manner, manner_of}
 use Rattle.dcm_trees.specs.Run.{Shares}
-use Rattle.dcm_trees.specs.Task.{task_of}
+use Rattle.dcm_trees.specs.Task.{Task, task_of}
 use Rattle.dcm_trees.specs.Work.{visits_of}
 use Rattle.dcm_tree_laws.specs.Again.{sure}
-use Rattle.dcm_tree_laws.specs.Copied.{FileWasThere, is_settled, IsSettled, FileIsSettled, WasCopied, CopiesAreThere, CopiesAreThereOfList}
-use Rattle.dcm_tree_laws.specs.Copies.{EndsUnnamed, fate_again, HasFile, Stands, of_copy, unnamed, an_index, no_file}
-use Rattle.dcm_tree_laws.specs.Determined.{FileAt, FollowsLinks, as_whole, working, working_folders}
+use Rattle.dcm_tree_laws.specs.Copied.{FileWasThere, is_settled, IsSettled, FileIsSettledAs, WasCopied, CopiesAreThere, CopiesAreThereOfList, IsSettledAs, is_so, has_other}
+use Rattle.dcm_tree_laws.specs.Copies.{EndsUnnamed, fate_again, HasFile, Stands, of_copy, unnamed, an_index, no_file, HasOther, of_other}
+use Rattle.dcm_tree_laws.specs.Determined.{ComesTo, FileAt, FollowsLinks, as_whole, working, working_folders}
 use Rattle.dcm_tree_laws.specs.FileSystem.{FileSystem, Tree, Host, number_of, place_of, at_path, folders_do}
 use Rattle.dcm_tree_laws.specs.Laws.{IsOutput, part_path}
 use Rattle.dcm_tree_laws.specs.Rows.{Visit, noted}
 use Rattle.dcm_tree_laws.specs.Single.{TellsAll}
-use Rattle.dcm_tree_laws.specs.Stays.{IsOfOutput, Stays}
+use Rattle.dcm_tree_laws.proofs.Near.{IsNear, Stays}
 use Rattle.dcm_tree_laws.proofs.CopiesBy.{working_quiet, over_visit, apart_by, file_still, written_again}
 use Rattle.dcm_tree_laws.proofs.CopyLeft.{none_other}
 use Rattle.dcm_tree_laws.proofs.CopyMade.{CopyMade, copy_made, copy_made_stays, copy_found}
@@ -40,7 +42,9 @@ use Rattle.dcm_tree_laws.proofs.OutputsBy.{Leaves, leaves, Still, then_stays, pa
 use Rattle.dcm_tree_laws.proofs.Quiet.{only_quiet, IsClosed, IsSame}
 use Rattle.dcm_tree_laws.proofs.RowsBy.{HasRows, visit_of, visit_rows, rows_kept, no_rows, same_manifest}
 use Rattle.dcm_tree_laws.proofs.Runs.{visit_name}
-use Rattle.dcm_tree_laws.proofs.MetMade.{met_unnamed}
+use Rattle.dcm_tree_laws.proofs.CopyMet.{MetBytes}
+use Rattle.dcm_tree_laws.proofs.MadeBy.{made_there}
+use Rattle.dcm_tree_laws.proofs.MetMade.{met_unnamed, MetAs, met_stays, met_copy}
 use Rattle.dcm_tree_laws.proofs.UnnamedMade.{Ended, ended, is_ended}
 use Rattle.dcm_tree_laws.proofs.Walks.{VisitsDo, walks_do}
 use Rattle.dcm_tree_laws.proofs.Working.{whole_gives}
@@ -49,7 +53,7 @@ use Rattle.dcm_tree_laws.proofs.Working.{whole_gives}
 
 -- how the names of a run are done
 record Goes {I O : Type 0} (h : Host I O) (w : Writer O) (start : Tree) (k : Manner) : Type 0 where
-  of_output : IsOfOutput k.output k.part
+  of_output : IsNear k.output k.part
   tells : TellsAll h w
   by : k.keeps_names ≡ false
   none : at_path h start k.part ≡ None
@@ -59,19 +63,21 @@ record Goes {I O : Type 0} (h : Host I O) (w : Writer O) (start : Tree) (k : Man
 -- what the row of a name says, as a run left it
 data IsFirst {I O : Type 0} (h : Host I O) (k : Manner) (start now : Tree) (v : Visit) (done : Done) : Type 0 where
   copied : (mode : ℕ) → v.what ≡ File mode → is_media_index v.named.relative ≡ false → fate_again done.fate ≡ fates.There → (f : HasFile h start v) → CopyMade h k.task k.part k.output (start.bytes (number_of f.file.file)) done now → IsFirst h k start now v done
+  met_other : (mode : ℕ) → v.what ≡ File mode → is_media_index v.named.relative ≡ false → done.fate ≡ fates.Occupied → (f : HasFile h start v) → MetAs h false k.task k.part k.output (start.bytes (number_of f.file.file)) done now → IsFirst h k start now v done
   was_ended : (mode : ℕ) → v.what ≡ File mode → is_media_index v.named.relative ≡ false → is_written done.fate ≡ false → (f : HasFile h start v) → Ended k.task (start.bytes (number_of f.file.file)) done → IsFirst h k start now v done
   was_index : (mode : ℕ) → v.what ≡ File mode → is_media_index v.named.relative ≡ true → done ≡ without_name fates.MediaIndex → IsFirst h k start now v done
   was_no_file : ((mode : ℕ) → v.what ≢ File mode) → done ≡ without_name (fate_of v.what) → IsFirst h k start now v done
 
 first_stays : {I O : Type 0} (h : Host I O) (k : Manner) (start t u : Tree) (v : Visit) (done : Done) → Stays h k.part k.output t u → IsFirst h k start t v done → IsFirst h k start u v done
 first_stays h k start t u v done stays (copied mode is index written f c) = copied mode is index written f (copy_made_stays h k.task k.part k.output (start.bytes (number_of f.file.file)) done t u stays c)
+first_stays h k start t u v done stays (met_other mode is index occupied f c) = met_other mode is index occupied f (met_stays h false k.task k.part k.output (start.bytes (number_of f.file.file)) done t u stays c)
 first_stays h k start t u v done stays (was_ended mode is index not f e) = was_ended mode is index not f e
 first_stays h k start t u v done stays (was_index mode is index d) = was_index mode is index d
 first_stays h k start t u v done stays (was_no_file other d) = was_no_file other d
 
 -- of a file that was there at the start, and is settled
 abbrev Made : {I O : Type 0} → Host I O → Manner → (start now : Tree) → Visit → Done → Type 0
-Made h k start now v done = FileWasThere h start v → FileIsSettled h k.part k.output v done → IsFirst h k start now v done
+Made h k start now v done = FileWasThere h start v → FileIsSettledAs h k.part k.output v done → IsFirst h k start now v done
 
 copy_of : {I O F E : Type 0} (h : Host I O) (r : Reader I) (w : Writer O) (e : Writer E) (k : Manner) (n : Named) (what : What) (start : Tree) (from : E) (before : FileSystem) (done : Done) (to : E) (after : FileSystem) → Goes h w start k → before.written ≡ None → Still h k.part start before.now
     → DoesName (working {F = F} h r w e) k n what from before (Ok done) to after → is_written done.fate ≡ true → (f : HasFile h start (visit_of n what)) → CopyMade h k.task k.part k.output (start.bytes (number_of f.file.file)) done after.now
@@ -113,7 +119,8 @@ by_fate {I} {O} {F} h r w e k n what mode start from before done to after (was_t
     copied mode is index (ap fate_again there) f
     (subst (λ (b : List ℕ). CopyMade h k.task k.part k.output b done after.now)
     (still.bytes (h.leads Followed n.path) f.file.file (apart_by start (h.leads Followed n.path) (place_of h k.part) f.file.file goes.none f.file.is) f.file.is)
-    (met_unnamed F h r w e (whole_gives h r w goes.tells) k goes.of_output goes.leads start goes.follows n mode from before (Ok done) to after done still none f.text now does refl there (settled.elsewhere there)))
+    (met_copy h k.task k.part k.output (before.now.bytes (number_of now.file)) done after.now
+    (met_unnamed F h r w e (whole_gives h r w goes.tells) k goes.of_output goes.leads start goes.follows true n mode from before (Ok done) to after done still none f.text now does refl there (settled.elsewhere there))))
 by_fate {I} {O} {F} h r w e k n what mode start from before done to after (ended_so so not) goes none still is index does by f settled =
     let now : FileAt h Followed before.now n.path = file_still h k.part n.path start before.now goes.none still f.file in
     was_ended mode is index not f
@@ -121,12 +128,24 @@ by_fate {I} {O} {F} h r w e k n what mode start from before done to after (ended
     (still.bytes (h.leads Followed n.path) f.file.file (apart_by start (h.leads Followed n.path) (place_of h k.part) f.file.file goes.none f.file.is) f.file.is)
     (ended F h r w e (whole_gives h r w goes.tells) k goes.leads n mode from before (Ok done) to after done f.text now does refl not so))
 
+by_settled : {I O F E : Type 0} (h : Host I O) (r : Reader I) (w : Writer O) (e : Writer E) (k : Manner) (n : Named) (what : What) (mode : ℕ) (start : Tree) (from : E) (before : FileSystem) (done : Done) (to : E) (after : FileSystem) → Goes h w start k
+    → before.written ≡ None → Still h k.part start before.now → what ≡ File mode → is_media_index n.relative ≡ false → DoesUnnamed (working {F = F} h r w e) k n mode from before (Ok done) to after → k.keeps_names ≡ false → HasFile h start (visit_of n what)
+    → IsSettledAs h k.part k.output (visit_of n what) done → IsFirst h k start after.now (visit_of n what) done
+by_settled {I} {O} {F} h r w e k n what mode start from before done to after goes none still is index does by f (is_so settled) =
+    by_fate {F = F} h r w e k n what mode start from before done to after (settled_by done.fate settled.settled) goes none still is index does by f settled
+by_settled {I} {O} {F} h r w e k n what mode start from before done to after goes none still is index does by f (has_other occupied elsewhere) =
+    let now : FileAt h Followed before.now n.path = file_still h k.part n.path start before.now goes.none still f.file in
+    met_other mode is index occupied f
+    (subst (λ (b : List ℕ). MetAs h false k.task k.part k.output b done after.now)
+    (still.bytes (h.leads Followed n.path) f.file.file (apart_by start (h.leads Followed n.path) (place_of h k.part) f.file.file goes.none f.file.is) f.file.is)
+    (met_unnamed F h r w e (whole_gives h r w goes.tells) k goes.of_output goes.leads start goes.follows false n mode from before (Ok done) to after done still none f.text now does refl occupied elsewhere))
+
 name_made : {I O F E : Type 0} (h : Host I O) (r : Reader I) (w : Writer O) (e : Writer E) (k : Manner) (n : Named) (what : What) (start : Tree) (from : E) (before : FileSystem) (done : Done) (to : E) (after : FileSystem) → Goes h w start k → before.written ≡ None → Still h k.part start before.now
     → DoesName (working {F = F} h r w e) k n what from before (Ok done) to after → Made h k start after.now (visit_of n what) done
 name_made h r w e k n what start from before done to after goes none still (files.a_file mode is (files.an_index index told ok same)) there settled = was_index mode is index (same_ok (Ok done) (without_name fates.MediaIndex) done ok refl)
 name_made h r w e k n what start from before done to after goes none still (files.a_file mode is (files.keeps_name became index kept does ok)) there settled = true_false k.keeps_names kept goes.by
 name_made {I} {O} {F} h r w e k n what start from before done to after goes none still (files.a_file mode is (files.by_instance index not does)) there settled =
-    by_fate {F = F} h r w e k n what mode start from before done to after (settled_by done.fate (settled mode is index).settled) goes none still is index does not (there mode is) (settled mode is index)
+    by_settled {F = F} h r w e k n what mode start from before done to after goes none still is index does not (there mode is) (settled mode is index)
 name_made h r w e k n what start from before done to after goes none still (files.no_file other told ok same) there settled = was_no_file other (same_ok (Ok done) (without_name (fate_of what)) done ok refl)
 
 -- ---- all names
@@ -192,12 +211,32 @@ goes_on h w start run part shared shares is tells by none follows = subst (Goes 
   follows = follows;
 })
 
+-- another file that was met is there
+other_found : {I O : Type 0} (h : Host I O) (task : Task) (part output path : List ℕ) (start now : Tree) (done : Done) → IsUtf8 path → Still h part start now → (f : FileAt h Followed start path) → h.leads Followed path ≢ place_of h part
+    → (c : MetAs h false task part output (start.bytes (number_of f.file)) done now) → HasOther h task output now path c.uids
+other_found h task part output path start now done text still f apart c = record {
+  text = text;
+  input = record { file = f.file; is = still.there (h.leads Followed path) f.file apart f.is; kind = f.kind };
+  made = c.bytes;
+  verdict = c.verdict;
+  comes = subst (λ (b : List ℕ). ComesTo task b c.bytes c.verdict) (sym (still.bytes (h.leads Followed path) f.file apart f.is)) c.comes;
+  is_done = c.done_is;
+  names = c.names;
+  there = made_there h (λ mode its. MetBytes false c.bytes its) part output (instance_name c.uids) now c.at;
+  other = c.at.out.whole;
+}
+
 -- it stands for the next run
 stands : {I O : Type 0} (h : Host I O) (k : Manner) (start now : Tree) (v : Visit) (done : Done) → at_path h start k.part ≡ None → Still h k.part start now → IsFirst h k start now v done → Stands h k.task k.output now v done
 stands h k start now v done none still (copied mode is index written f c) = of_copy mode is index written (record {
   uids = c.uids;
   named = c.named;
   copy = copy_found h k.task k.part k.output v.named.path start now done f.text still f.file (apart_by start (h.leads Followed v.named.path) (place_of h k.part) f.file.file none f.file.is) c;
+})
+stands h k start now v done none still (met_other mode is index occupied f c) = of_other mode is index occupied (record {
+  uids = c.uids;
+  named = c.named;
+  met = other_found h k.task k.part k.output v.named.path start now done f.text still f.file (apart_by start (h.leads Followed v.named.path) (place_of h k.part) f.file.file none f.file.is) c;
 })
 stands h k start now v done none still (was_ended mode is index not f x) =
     unnamed mode is index (record { text = f.text; file = file_still h k.part v.named.path start now none still f.file })

@@ -22,7 +22,7 @@ use Rattle.dcm_cli.specs.declared.ending.Ending.TheVariants.{Worked}
 use Rattle.dcm_cli.specs.declared.ending.Verdict.{Verdict}
 use Rattle.dcm_cli.specs.Run.{Answered}
 use Rattle.dcm_trees.specs.declared.fate.Fate.{Fate}
-use Rattle.dcm_trees.specs.declared.fate.Fate.TheVariants.{There}
+use Rattle.dcm_trees.specs.declared.fate.Fate.TheVariants.{There, Occupied}
 use Rattle.dcm_trees.specs.declared.file.Done.{Done}
 use Rattle.dcm_trees.specs.declared.part.Naming.{Naming}
 use Rattle.dcm_trees.specs.declared.part.Naming.TheVariants.{NotFree}
@@ -35,14 +35,14 @@ use Rattle.dcm_trees.specs.Fate.{is_written}
 use Rattle.dcm_trees.specs.File as files
 use Rattle.dcm_trees.specs.File.{DoesFile, DoesName, is_media_index}
 use Rattle.dcm_trees.specs.Instance as instance
-use Rattle.dcm_trees.specs.Instance.{GivesFreeName, FindsCopy, PlacesPart, NamesBy, NamesPart, FillsByInstance, DoesByInstance, DoesUnnamed, is_there, name_of_instance}
-use Rattle.dcm_trees.specs.Lines.{ending_fate, ending_lines, verdict_fate}
+use Rattle.dcm_trees.specs.Instance.{GivesFreeName, FindsCopy, PlacesPart, NamesBy, NamesPart, FillsByInstance, DoesByInstance, DoesUnnamed, is_there, name_of_instance, ComparesFiles}
+use Rattle.dcm_trees.specs.Lines.{ending_fate, ending_lines, verdict_fate, verdict_lines}
 use Rattle.dcm_trees.specs.Manner.{Manner}
 use Rattle.dcm_trees.specs.Part as parts
 use Rattle.dcm_trees.specs.Part.{RemovesPart, ClearsPart, is_moved, naming_lines, naming_fate}
 use Rattle.dcm_trees.specs.Task.{Task}
 use Rattle.dcm_tree_laws.specs.Again.{IsThere, sure}
-use Rattle.dcm_tree_laws.specs.Copies.{HasCopy, IsAsItWas, IsThereAs, TellsOnly, IsDoneAgain, CopyIsLeft}
+use Rattle.dcm_tree_laws.specs.Copies.{HasCopy, HasOther, IsAsItWas, IsNamedBy, IsDoneAgain, CopyIsLeft}
 use Rattle.dcm_tree_laws.specs.Determined.{FileAt, FollowsLinks, FilesFit, ComesTo, working_may, working_folders, as_whole, working}
 use Rattle.dcm_tree_laws.specs.FileSystem.{FileSystem, Tree, Host, Number, number_of, place_of, at_path, may_do, folders_do, MakesFile, TakesPieces, no_piece, and_piece, Closes, ClosesOutput, Removes, SameNames}
 use Rattle.dcm_tree_laws.specs.Single.{IsJobOf, TellsAll}
@@ -56,7 +56,7 @@ use Rattle.dcm_tree_laws.proofs.Looking as looking
 use Rattle.dcm_tree_laws.proofs.OutputsBy.{Still}
 use Rattle.dcm_tree_laws.proofs.StillBy.{there_stays}
 use Rattle.dcm_tree_laws.proofs.Sure as sures
-use Rattle.dcm_tree_laws.proofs.Working.{working_also, working_sure, whole_gives, IsOpened, is_opened, not_unopened, JobIs, job_found, HasDone, job_done, PartMade, part_made, instance_found, compared_same}
+use Rattle.dcm_tree_laws.proofs.Working.{working_also, working_sure, whole_gives, IsOpened, is_opened, not_unopened, JobIs, job_found, HasDone, job_done, PartMade, part_made, instance_found, compared_same, compared_bytes}
 use Rattle.dcm_tree_laws.proofs.Works as works
 
 true_false : {A : Type 0} (b : Bool) → b ≡ true → b ≡ false → A
@@ -155,13 +155,45 @@ abbrev pub followed : {I O : Type 0} (h : Host I O) (t : Tree) (path : List ℕ)
 followed h t path f leads at kind = record { file = f; is = ap t.at leads ∙ at; kind = kind }
 
 -- what is known of the output of a file, and of the paths of it and of the part
-pub record Known {I O : Type 0} (h : Host I O) (r : Reader I) (w : Writer O) (part output : List ℕ) (uids : Uids) (held : List ℕ) : Type 0 where
+pub record Known {I O : Type 0} (h : Host I O) (r : Reader I) (w : Writer O) (part output : List ℕ) (uids : Uids) (held : List ℕ) (alike : Bool) : Type 0 where
   pub all : GivesAll h (as_whole h r) w
   pub text : IsUtf8 part
   pub leads_part : h.leads Followed part ≡ place_of h part
   pub leads_path : h.leads Followed (below output (instance_name uids)) ≡ place_of h (below output (instance_name uids))
   pub names : FileNames held (Ok uids)
-  pub fits : length held ≤ INPUT_LIMIT
+  pub fits : alike ≡ true → length held ≤ INPUT_LIMIT
+
+-- what a file that is met is told as: the same, or another
+abbrev pub met_fate : (alike : Bool) → Fate
+met_fate true = There
+met_fate false = Occupied
+
+-- the bytes of a file are these, or others
+abbrev pub AreBytes : (alike : Bool) → (held its : List ℕ) → Type 0
+AreBytes true held its = its ≡ held
+AreBytes false held its = its ≢ held
+
+-- its row has the name of the instance, and says that it is there
+pub record IsMetAs (alike : Bool) (uids : Uids) (done : Done) : Type 0 where
+  pub fate_is : done.fate ≡ met_fate alike
+  pub named : IsNamedBy uids done
+
+-- what its job came to is told, and where other bytes are there
+abbrev met_lines : (name : List ℕ) → (alike : Bool) → List ℕ
+met_lines name alike = naming_lines name (NotFree places.There) alike
+
+pub record TellsMet {E : Type 0} (errors : Writer E) (name : List ℕ) (alike : Bool) (verdict : Verdict) (from to : E) : Type 0 where
+  pub mid : E
+  pub told : Reports errors from mid (verdict_lines name verdict)
+  pub more : Reports errors mid to (met_lines name alike)
+
+-- a file is done again, and left
+pub record IsMetAgain {E : Type 0} (errors : Writer E) (alike : Bool) (n : Named) (uids : Uids) (verdict : Verdict) (from : E) (before : FileSystem) (r : Result Done RunStop) (to : E) (after : FileSystem) : Type 0 where
+  pub done : Done
+  pub row : r ≡ Ok done
+  pub there : IsMetAs alike uids done
+  pub told : TellsMet errors n.name alike verdict from to
+  pub same : IsAsItWas before.now after.now
 
 no_uids : (cause : NoInstance) (u : Uids) → Err cause ≡ Ok u → ⊥
 no_uids cause u e = absurd (cc)
@@ -175,11 +207,15 @@ not_there naming is not = true_false (is_there naming) (ap is_there is) not
 not_moved : {A : Type 0} (naming : Naming) → naming ≡ NotFree places.There → is_moved naming ≡ true → A
 not_moved naming is moved = true_false (is_moved naming) moved (ap is_moved is)
 
-no_lines : (name : List ℕ) (naming : Naming) (same : Bool) → naming ≡ NotFree places.There → same ≡ true → naming_lines name naming same ≡ []
-no_lines name naming same is alike = ap (λ (x : Naming). naming_lines name x same) is ∙ ap (λ (b : Bool). naming_lines name (NotFree places.There) b) alike
+as_lines : (name : List ℕ) (naming : Naming) (same alike : Bool) → naming ≡ NotFree places.There → same ≡ alike → naming_lines name naming same ≡ met_lines name alike
+as_lines name naming same alike is so = ap (λ (x : Naming). naming_lines name x same) is ∙ ap (λ (b : Bool). naming_lines name (NotFree places.There) b) so
 
-fate_there : (naming : Naming) (fate : Fate) (same : Bool) → naming ≡ NotFree places.There → same ≡ true → naming_fate naming fate same ≡ There
-fate_there naming fate same is alike = ap (λ (x : Naming). naming_fate x fate same) is ∙ ap (λ (b : Bool). naming_fate (NotFree places.There) fate b) alike
+met_naming : (fate : Fate) (alike : Bool) → naming_fate (NotFree places.There) fate alike ≡ met_fate alike
+met_naming fate true = refl
+met_naming fate false = refl
+
+fate_there : (naming : Naming) (fate : Fate) (same alike : Bool) → naming ≡ NotFree places.There → same ≡ alike → naming_fate naming fate same ≡ met_fate alike
+fate_there naming fate same alike is so = ap (λ (x : Naming). naming_fate x fate same) is ∙ ap (λ (b : Bool). naming_fate (NotFree places.There) fate b) so ∙ met_naming fate alike
 
 pub no_output : {A O : Type 0} (cause : NoPart) (output : O) → Err cause ≡ Ok output → A
 no_output cause output e = absurd (cc)
@@ -195,7 +231,7 @@ file_other e = absurd (cc)
 same_found : (o : Option Found) (f g : Found) → o ≡ Some f → o ≡ Some g → f ≡ g
 same_found o f g a b = cc
 
-module _ {I O E : Type 0} (F : Type 0) (h : Host I O) (r : Reader I) (w : Writer O) (e : Writer E) (m : Manner) (uids : Uids) (held : List ℕ) (known : Known h r w m.part m.output uids held) where
+module _ {I O E : Type 0} (F : Type 0) (h : Host I O) (r : Reader I) (w : Writer O) (e : Writer E) (m : Manner) (uids : Uids) (held : List ℕ) (alike : Bool) (known : Known h r w m.part m.output uids held alike) where
   -- the state in which the part is whole, and the copy is there
   record AtPart (s : FileSystem) : Type 0 where
     file : Found
@@ -203,7 +239,7 @@ module _ {I O E : Type 0} (F : Type 0) (h : Host I O) (r : Reader I) (w : Writer
     kind : file.kind ≡ kinds.File
     bytes : s.now.bytes (number_of file) ≡ held
     there : IsThere h m.output (instance_name uids) s.now
-    same : s.now.bytes (number_of there.file.found) ≡ held
+    same : AreBytes alike held (s.now.bytes (number_of there.file.found))
 
   abbrev part_file : (s : FileSystem) → AtPart s → FileAt h Followed s.now m.part
   part_file s x = followed h s.now m.part x.file known.leads_part x.at x.kind
@@ -222,12 +258,17 @@ module _ {I O E : Type 0} (F : Type 0) (h : Host I O) (r : Reader I) (w : Writer
       let path : List ℕ = below m.output (instance_name uids) in
       no_free p (finds_there {F = F} h m.output (instance_name uids) path s p looked refl x.there (sures.finds (working_folders h (sure (folders_do {F = F} h))) (sure (folders_do {F = F} h)) (working_sure {F = F} h).sees path (length m.output + 1) s p looked f)) nf
 
-  -- it is compared with the copy, and is the same
+  -- it is compared with what is there
+  answer_is : (s : FileSystem) (same its : Bool) (after : FileSystem) → (f : FileAt h Followed s.now m.part) → (g : FileAt h Followed s.now (below m.output (instance_name uids))) → s.now.bytes (number_of f.file) ≡ held → AreBytes its held (s.now.bytes (number_of g.file)) → (its ≡ true → length held ≤ INPUT_LIMIT)
+      → IsUtf8 (below m.output (instance_name uids)) → ComparesFiles (working_may h r w (may_do h)) (as_whole h r) m.part (below m.output (instance_name uids)) s same after → same ≡ its
+  answer_is s same true after f g bytes are fits text c = compared_same h r w known.all m.part (below m.output (instance_name uids)) s same after held known.text text f g bytes are (fits refl) c
+  answer_is s true false after f g bytes are fits text c = absurd (are (sym (compared_bytes h r w known.all m.part (below m.output (instance_name uids)) s after known.text text f g c) ∙ bytes))
+  answer_is s false false after f g bytes are fits text c = refl
+
   copy_same : (s : FileSystem) (naming : Naming) (same : Bool) (after : FileSystem) → AtPart s → naming ≡ NotFree places.There
-      → FindsCopy (working_may h r w (may_do h)) (as_whole h r) naming m.part (below m.output (instance_name uids)) s same after → same ≡ true
+      → FindsCopy (working_may h r w (may_do h)) (as_whole h r) naming m.part (below m.output (instance_name uids)) s same after → same ≡ alike
   copy_same s naming same after x named (instance.not_there none is stays) = not_there naming named none
-  copy_same s naming same after x named (instance.compared there c) =
-      compared_same h r w known.all m.part (below m.output (instance_name uids)) s same after held known.text x.there.file.text (part_file s x) (copy_file s x) x.bytes x.same known.fits c
+  copy_same s naming same after x named (instance.compared there c) = answer_is s same alike after (part_file s x) (copy_file s x) x.bytes x.same known.fits x.there.file.text c
 
   -- and it is removed
   cleared : (naming : Naming) (s after : FileSystem) → naming ≡ NotFree places.There → after.unremoved ≡ false → ClearsPart (working_may h r w (may_do h)) naming m.part s after → Removes h m.part s after
@@ -235,32 +276,32 @@ module _ {I O E : Type 0} (F : Type 0) (h : Host I O) (r : Reader I) (w : Writer
   cleared naming s after named gone (parts.removed is removes) = removed h r w m.part s after known.text gone removes
 
   -- what becomes of it
-  record LeftAs (from : E) (s : FileSystem) (done : Done) (to : E) (after : FileSystem) : Type 0 where
-    there : IsThereAs uids done
-    told : Reports e from to []
+  record LeftAs (name : List ℕ) (from : E) (s : FileSystem) (done : Done) (to : E) (after : FileSystem) : Type 0 where
+    there : IsMetAs alike uids done
+    told : Reports e from to (met_lines name alike)
     gone : Removes h m.part s after
 
-  record Placed (from : E) (s : FileSystem) (became : Fate) (to : E) (after : FileSystem) : Type 0 where
-    fate_is : became ≡ There
-    told : Reports e from to []
+  record Placed (name : List ℕ) (from : E) (s : FileSystem) (became : Fate) (to : E) (after : FileSystem) : Type 0 where
+    fate_is : became ≡ met_fate alike
+    told : Reports e from to (met_lines name alike)
     gone : Removes h m.part s after
 
   placed : (name : List ℕ) (fate : Fate) (from : E) (s : FileSystem) (became : Fate) (to : E) (after : FileSystem) → AtPart s → after.unremoved ≡ false
-      → PlacesPart (working {F = F} h r w e) m name (below m.output (instance_name uids)) fate from s became to after → Placed from s became to after
+      → PlacesPart (working {F = F} h r w e) m name (below m.output (instance_name uids)) fate from s became to after → Placed name from s became to after
   placed name fate from s became to after x gone p =
       let path : List ℕ = below m.output (instance_name uids) in
       let named : (p.naming ≡ NotFree places.There) × (p.named ≡ s) = gets_none s p.naming p.named x p.gives in
       let compared : p.compared ≡ s = jobs.finds_copy h (as_whole h r) p.naming m.part path p.named p.same p.compared (works.finds_copy (working_may h r w (may_do h)) (may_do h) (working_also h r w) (as_whole h r) p.naming m.part path p.named p.same p.compared p.copy) ∙ named.1 in
-      let same : p.same ≡ true =
+      let same : p.same ≡ alike =
       copy_same s p.naming p.same p.compared x named.0 (subst (λ (t : FileSystem). FindsCopy (working_may h r w (may_do h)) (as_whole h r) p.naming m.part path t p.same p.compared) named.1 p.copy) in
       record {
-        fate_is = p.becomes ∙ fate_there p.naming fate p.same named.0 same;
-        told = subst (Reports e from to) (no_lines name p.naming p.same named.0 same) p.told;
+        fate_is = p.becomes ∙ fate_there p.naming fate p.same alike named.0 same;
+        told = subst (Reports e from to) (as_lines name p.naming p.same alike named.0 same) p.told;
         gone = subst (λ (t : FileSystem). Removes h m.part t after) compared (cleared p.naming p.compared after named.0 gone p.clears);
       }
 
-  left_by : (from : E) (s : FileSystem) (became : Fate) (relative : ArrayVec ℕ) (done : Done) (to : E) (after : FileSystem) → relative.items ≡ instance_name uids → done ≡ record { fate = became; instance = Some relative } → Placed from s became to after → LeftAs from s done to after
-  left_by from s became relative done to after rel d x = record {
+  left_by : (name : List ℕ) (from : E) (s : FileSystem) (became : Fate) (relative : ArrayVec ℕ) (done : Done) (to : E) (after : FileSystem) → relative.items ≡ instance_name uids → done ≡ record { fate = became; instance = Some relative } → Placed name from s became to after → LeftAs name from s done to after
+  left_by name from s became relative done to after rel d x = record {
     there = record {
       fate_is = ap (λ (y : Done). y.fate) d ∙ x.fate_is;
       named = record { relative = relative; instance_is = ap (λ (y : Done). y.instance) d; relative_is = rel };
@@ -269,15 +310,15 @@ module _ {I O E : Type 0} (F : Type 0) (h : Host I O) (r : Reader I) (w : Writer
     gone = x.gone;
   }
 
-  named_by : (name : List ℕ) (i : Instance) (fate : Fate) (from : E) (s : FileSystem) (done : Done) (to : E) (after : FileSystem) → AtPart s → after.unremoved ≡ false → uids_of i ≡ uids → NamesBy (working {F = F} h r w e) m name i fate from s done to after → LeftAs from s done to after
+  named_by : (name : List ℕ) (i : Instance) (fate : Fate) (from : E) (s : FileSystem) (done : Done) (to : E) (after : FileSystem) → AtPart s → after.unremoved ≡ false → uids_of i ≡ uids → NamesBy (working {F = F} h r w e) m name i fate from s done to after → LeftAs name from s done to after
   named_by name i fate from s done to after x gone is (instance.too_long none removes told d) =
       absurd (too_long m.output (name_of_instance i) (subst (λ (u : Uids). nat_le (length (below m.output (instance_name u))) PATH_LIMIT ≡ true) (sym is) x.there.fits) none)
   named_by name i fate from s done to after x gone is (instance.placed path became relative at places rel d) =
       let own : path ≡ below m.output (instance_name uids) = path_is m.output (name_of_instance i) path at ∙ ap (λ (u : Uids). below m.output (instance_name u)) is in
-      left_by from s became relative done to after (rel ∙ ap instance_name is) d
+      left_by name from s became relative done to after (rel ∙ ap instance_name is) d
       (placed name fate from s became to after x gone (subst (λ (p : List ℕ). PlacesPart (working {F = F} h r w e) m name p fate from s became to after) own places))
 
-  part_named : (name : List ℕ) (fate : Fate) (from : E) (s : FileSystem) (done : Done) (to : E) (after : FileSystem) → AtPart s → after.unremoved ≡ false → NamesPart (working {F = F} h r w e) m name fate from s done to after → LeftAs from s done to after
+  part_named : (name : List ℕ) (fate : Fate) (from : E) (s : FileSystem) (done : Done) (to : E) (after : FileSystem) → AtPart s → after.unremoved ≡ false → NamesPart (working {F = F} h r w e) m name fate from s done to after → LeftAs name from s done to after
   part_named name fate from s done to after x gone (instance.no_instance cause read f removes told is) =
       let found : FileNames (s.now.bytes (number_of (part_file s x).file)) (Err cause) = instance_found h r w known.all m.part s (Err cause) read known.text (part_file s x) f in
       absurd (no_uids cause uids (one_instance held (Err cause) (Ok uids) (subst (λ (b : List ℕ). FileNames b (Err cause)) x.bytes found) known.names))
@@ -291,15 +332,15 @@ module _ {I O E : Type 0} (F : Type 0) (h : Host I O) (r : Reader I) (w : Writer
 
   -- it is done again, and left
   record IsFilled (name : List ℕ) (verdict : Verdict) (from : E) (before : FileSystem) (done : Done) (to : E) (after : FileSystem) : Type 0 where
-    there : IsThereAs uids done
-    told : TellsOnly e name verdict from to
+    there : IsMetAs alike uids done
+    told : TellsMet e name alike verdict from to
     same : IsAsItWas before.now after.now
 
   -- before the part is made
   record Before (s : FileSystem) : Type 0 where
     none : at_path h s.now m.part ≡ None
     there : IsThere h m.output (instance_name uids) s.now
-    same : s.now.bytes (number_of there.file.found) ≡ held
+    same : AreBytes alike held (s.now.bytes (number_of there.file.found))
 
   at_part : (mode : ℕ) (before made s : FileSystem) → Before before → MakesFile h m.part mode before made → ClosesOutput made.written held made s → AtPart s
   at_part mode before made s x makes closes =
@@ -311,7 +352,7 @@ module _ {I O E : Type 0} (F : Type 0) (h : Host I O) (r : Reader I) (w : Writer
         kind = whole.kind;
         bytes = whole.bytes;
         there = there_stays h m.part m.output (instance_name uids) before.now s.now x.none still x.there;
-        same = whole.others (place_of h (below m.output (instance_name uids))) x.there.file.found x.there.file.is ∙ x.same;
+        same = subst (AreBytes alike held) (sym (whole.others (place_of h (below m.output (instance_name uids))) x.there.file.found x.there.file.is)) x.same;
       }
 
   -- a job of these bytes that is done into the part comes to the same
@@ -327,16 +368,16 @@ module _ {I O E : Type 0} (F : Type 0) (h : Host I O) (r : Reader I) (w : Writer
       let one : (h.took f.written ≡ held) × (d.verdict ≡ verdict) = comes_once m.task task_bytes (h.took f.written) held d.verdict verdict (record { job = job; is_job = of_job; answered = subst (λ (b : List ℕ). Answered job b (h.took f.written) d.verdict) holds d.answered }) comes in
       let closes : ClosesOutput made.written held made was_filled =
       subst (λ (s : FileSystem). ClosesOutput made.written held made s) (sym f.releases) (subst (λ (b : List ℕ). ClosesOutput made.written b made f.closed) one.0 f.closes.0) in
-      let left : LeftAs told was_filled done to after = part_named name (ending_fate ending) told was_filled done to after (at_part mode before made was_filled x makes closes) gone names in
+      let left : LeftAs name told was_filled done to after = part_named name (ending_fate ending) told was_filled done to after (at_part mode before made was_filled x makes closes) gone names in
       record {
         there = left.there;
-        told = record { mid = told; told = subst (λ (y : Ending). Reports e from told (ending_lines name y)) (d.is ∙ ap Worked one.1) reports; no_more = left.told };
+        told = record { mid = told; told = subst (λ (y : Ending). Reports e from told (ending_lines name y)) (d.is ∙ ap Worked one.1) reports; more = left.told };
         same = as_it_was h m.part held before was_filled after x.none (whole_at h m.part mode held before made was_filled makes closes) left.gone;
       }
 
   -- what becomes of it
   again_by : (n : Named) (verdict : Verdict) (from : E) (before opened : FileSystem) (result : Result Done RunStop) (done : Done) (to : E) (after : FileSystem) → opened ≡ before → result ≡ Ok done → IsFilled n.name verdict from opened done to after
-      → IsDoneAgain e n uids verdict from before result to after
+      → IsMetAgain e alike n uids verdict from before result to after
   again_by n verdict from before opened result done to after same is x = record {
     done = done;
     row = is;
@@ -347,7 +388,7 @@ module _ {I O E : Type 0} (F : Type 0) (h : Host I O) (r : Reader I) (w : Writer
 
   -- the file is opened, and the part is made
   by_instance : (job : Job) (n : Named) (mode : ℕ) (verdict : Verdict) (from : E) (s : FileSystem) (result : Result Done RunStop) (to : E) (after : FileSystem) → Before s → IsUtf8 n.path → (f : FileAt h Followed s.now n.path) → IsJobOf m.task (s.now.bytes (number_of f.file)) job
-      → ComesTo m.task (s.now.bytes (number_of f.file)) held verdict → is_written (verdict_fate verdict) ≡ true → after.unremoved ≡ false → DoesByInstance (working {F = F} h r w e) job m n mode from s result to after → IsDoneAgain e n uids verdict from s result to after
+      → ComesTo m.task (s.now.bytes (number_of f.file)) held verdict → is_written (verdict_fate verdict) ≡ true → after.unremoved ≡ false → DoesByInstance (working {F = F} h r w e) job m n mode from s result to after → IsMetAgain e alike n uids verdict from s result to after
   by_instance job n mode verdict from s result to after x text f of_job comes written gone (instance.not_opened opens told is) = not_unopened h r w n.path s after text f opens
   by_instance job n mode verdict from s result to after x text f of_job comes written gone (instance.no_part input cause opened tried opens makes back ends) =
       let o : IsOpened h r (s.now.bytes (number_of f.file)) input s opened = is_opened h r w n.path s input opened text f opens in
@@ -362,7 +403,7 @@ module _ {I O E : Type 0} (F : Type 0) (h : Host I O) (r : Reader I) (w : Writer
 
   -- its job is found
   unnamed : (n : Named) (mode : ℕ) (verdict : Verdict) (from : E) (s : FileSystem) (result : Result Done RunStop) (to : E) (after : FileSystem) → Before s → IsUtf8 n.path → (f : FileAt h Followed s.now n.path) → ComesTo m.task (s.now.bytes (number_of f.file)) held verdict
-      → is_written (verdict_fate verdict) ≡ true → after.unremoved ≡ false → DoesUnnamed (working {F = F} h r w e) m n mode from s result to after → IsDoneAgain e n uids verdict from s result to after
+      → is_written (verdict_fate verdict) ≡ true → after.unremoved ≡ false → DoesUnnamed (working {F = F} h r w e) m n mode from s result to after → IsMetAgain e alike n uids verdict from s result to after
   unnamed n mode verdict from s result to after x text f comes written gone (instance.no_days cause finds told is) =
       no_job_by m.task (s.now.bytes (number_of f.file)) cause comes.job comes.is_job (job_found h r w known.all m.task n.path s (Err cause) after text f finds)
   unnamed n mode verdict from s result to after x text f comes written gone (instance.has_job job mid finds does) =
@@ -371,7 +412,7 @@ module _ {I O E : Type 0} (F : Type 0) (h : Host I O) (r : Reader I) (w : Writer
       (subst (λ (t : FileSystem). DoesByInstance (working {F = F} h r w e) job m n mode from t result to after) same does)
 
   file_again : (n : Named) (mode : ℕ) (verdict : Verdict) (from : E) (s : FileSystem) (result : Result Done RunStop) (to : E) (after : FileSystem) → m.keeps_names ≡ false → is_media_index n.relative ≡ false → Before s → IsUtf8 n.path → (f : FileAt h Followed s.now n.path)
-      → ComesTo m.task (s.now.bytes (number_of f.file)) held verdict → is_written (verdict_fate verdict) ≡ true → after.unremoved ≡ false → DoesFile (working {F = F} h r w e) m n mode from s result to after → IsDoneAgain e n uids verdict from s result to after
+      → ComesTo m.task (s.now.bytes (number_of f.file)) held verdict → is_written (verdict_fate verdict) ≡ true → after.unremoved ≡ false → DoesFile (working {F = F} h r w e) m n mode from s result to after → IsMetAgain e alike n uids verdict from s result to after
   file_again n mode verdict from s result to after by no_index x text f comes written gone (files.an_index index told is same) = true_false (is_media_index n.relative) index no_index
   file_again n mode verdict from s result to after by no_index x text f comes written gone (files.keeps_name became index kept does is) = true_false m.keeps_names kept by
   file_again n mode verdict from s result to after by no_index x text f comes written gone (files.by_instance index not does) = unnamed n mode verdict from s result to after x text f comes written gone does
@@ -385,13 +426,24 @@ pub record Leads {I O : Type 0} (h : Host I O) (part output : List ℕ) (uids : 
   pub path_leads : h.leads Followed (below output (instance_name uids)) ≡ place_of h (below output (instance_name uids))
   pub fits : length made ≤ INPUT_LIMIT
 
+-- where only the end of it is told
+as_done : {E : Type 0} (e : Writer E) (n : Named) (uids : Uids) (verdict : Verdict) (from : E) (before : FileSystem) (result : Result Done RunStop) (to : E) (after : FileSystem) → IsMetAgain e true n uids verdict from before result to after → IsDoneAgain e n uids verdict from before result to after
+as_done e n uids verdict from before result to after x = record {
+  done = x.done;
+  row = x.row;
+  there = record { fate_is = x.there.fate_is; named = x.there.named };
+  told = record { mid = x.told.mid; told = x.told.told; no_more = x.told.more };
+  same = x.same;
+}
+
 pub copy_again : {I O F E : Type 0} (h : Host I O) (r : Reader I) (w : Writer O) (e : Writer E) (m : Manner) (n : Named) (mode : ℕ) (uids : Uids) (from : E) (before : FileSystem) (result : Result Done RunStop) (to : E) (after : FileSystem) → TellsAll h w → m.keeps_names ≡ false
     → is_media_index n.relative ≡ false → at_path h before.now m.part ≡ None → (c : HasCopy h m.task m.output before.now n.path uids) → Leads h m.part m.output uids c.made → DoesName (working {F = F} h r w e) m n (File mode) from before result to after → after.unremoved ≡ false
     → IsDoneAgain e n uids c.verdict from before result to after
 copy_again {I} {O} {F} h r w e m n mode uids from before result to after tells by no_index none c leads (files.a_file other is does) gone =
-    file_again F h r w e m uids c.made
-    (record { all = whole_gives h r w tells; text = leads.text; leads_part = leads.part_leads; leads_path = leads.path_leads; names = c.names; fits = leads.fits }) n mode c.verdict from before result to after by no_index
-    (record { none = none; there = c.there; same = c.same }) c.text c.input c.comes c.done gone (subst (λ (k : ℕ). DoesFile (working {F = F} h r w e) m n k from before result to after) (sym (same_mode mode other is)) does)
+    as_done e n uids c.verdict from before result to after
+    (file_again F h r w e m uids c.made true
+    (record { all = whole_gives h r w tells; text = leads.text; leads_part = leads.part_leads; leads_path = leads.path_leads; names = c.names; fits = λ so. leads.fits }) n mode c.verdict from before result to after by no_index
+    (record { none = none; there = c.there; same = c.same }) c.text c.input c.comes c.done gone (subst (λ (k : ℕ). DoesFile (working {F = F} h r w e) m n k from before result to after) (sym (same_mode mode other is)) does))
 copy_again h r w e m n mode uids from before result to after tells by no_index none c leads (files.no_file other told is same) gone = absurd (other mode refl)
 
 -- where nothing is there, or a file, no link is
@@ -413,3 +465,13 @@ leads_by h part output t uids made follows fits text none there is = record {
 pub copy_is_left : {I O F E : Type 0} (r : Reader I) (w : Writer O) (e : Writer E) → CopyIsLeft F r w e
 copy_is_left {I} {O} {F} r w e h m n mode uids from before result to after tells by no_index text none follows fits c does gone =
     copy_again {F = F} h r w e m n mode uids from before result to after tells by no_index none c (leads_by h m.part m.output before.now uids c.made follows fits text none c.there c.same) does gone
+
+-- another file that is there is left too
+pub other_again : {I O F E : Type 0} (h : Host I O) (r : Reader I) (w : Writer O) (e : Writer E) (m : Manner) (n : Named) (mode : ℕ) (uids : Uids) (from : E) (before : FileSystem) (result : Result Done RunStop) (to : E) (after : FileSystem) → TellsAll h w → m.keeps_names ≡ false
+    → is_media_index n.relative ≡ false → IsUtf8 m.part → at_path h before.now m.part ≡ None → h.leads Followed m.part ≡ place_of h m.part → (c : HasOther h m.task m.output before.now n.path uids) → h.leads Followed (below m.output (instance_name uids)) ≡ place_of h (below m.output (instance_name uids))
+    → before.now.bytes (number_of c.there.file.found) ≢ c.made → DoesName (working {F = F} h r w e) m n (File mode) from before result to after → after.unremoved ≡ false → IsMetAgain e false n uids c.verdict from before result to after
+other_again {I} {O} {F} h r w e m n mode uids from before result to after tells by no_index text none part_leads c path_leads others (files.a_file other is does) gone =
+    file_again F h r w e m uids c.made false
+    (record { all = whole_gives h r w tells; text = text; leads_part = part_leads; leads_path = path_leads; names = c.names; fits = λ so. absurd (cc) }) n mode c.verdict from before result to after by no_index
+    (record { none = none; there = c.there; same = others }) c.text c.input c.comes c.is_done gone (subst (λ (k : ℕ). DoesFile (working {F = F} h r w e) m n k from before result to after) (sym (same_mode mode other is)) does)
+other_again h r w e m n mode uids from before result to after tells by no_index text none part_leads c path_leads others (files.no_file other told is same) gone = absurd (other mode refl)

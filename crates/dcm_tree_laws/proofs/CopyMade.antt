@@ -38,7 +38,7 @@ use Rattle.dcm_tree_laws.specs.FileSystem.{FileSystem, Tree, Host, number_of, pl
 use Rattle.dcm_tree_laws.specs.Laws.{over}
 use Rattle.dcm_tree_laws.specs.Outputs.{HasOutput}
 use Rattle.dcm_tree_laws.specs.Single.{IsJobOf, TellsAll}
-use Rattle.dcm_tree_laws.specs.Stays.{IsOfOutput, Stays}
+use Rattle.dcm_tree_laws.proofs.Near.{IsNear, Stays}
 use Rattle.dcm_tree_laws.proofs.CopyLeft.{WholeAt, whole_at, followed}
 use Rattle.dcm_tree_laws.proofs.Ends.{comes_once}
 use Rattle.dcm_tree_laws.proofs.Given.{NewOutput}
@@ -208,7 +208,7 @@ new_as h One Other part output path start now less new = record {
 pub by_name : (relative : List ℕ) (found : Option (ArrayVec ℕ)) (items : ArrayVec ℕ) (name : List ℕ) → found ≡ Some items → items.items ≡ name → name_in relative found ≡ name
 by_name relative found items name is named = ap (name_in relative) is ∙ named
 
-pub copy_made : {I O F E : Type 0} (h : Host I O) (r : Reader I) (w : Writer O) (e : Writer E) (m : Manner) (n : Named) (what : What) (from : E) (before : FileSystem) (done : Done) (to : E) (after : FileSystem) → TellsAll h w → m.keeps_names ≡ false → before.written ≡ None → IsOfOutput m.output m.part
+pub copy_made : {I O F E : Type 0} (h : Host I O) (r : Reader I) (w : Writer O) (e : Writer E) (m : Manner) (n : Named) (what : What) (from : E) (before : FileSystem) (done : Done) (to : E) (after : FileSystem) → TellsAll h w → m.keeps_names ≡ false → before.written ≡ None → IsNear m.output m.part
     → h.leads Followed m.part ≡ place_of h m.part → IsUtf8 n.path → (f : FileAt h Followed before.now n.path) → DoesName (working {F = F} h r w e) m n what from before (Ok done) to after → is_written done.fate ≡ true
     → CopyMade h m.task m.part m.output (before.now.bytes (number_of f.file)) done after.now
 copy_made {I} {O} {F} h r w e m n what from before done to after tells by none of_output leads text f does written =

@@ -4,6 +4,7 @@ use Rattle.std.specs.Prelude.{◌≢◌, nat_le, slice_index}
 use Rattle.std.specs.Option.{is_none}
 use Rattle.std.specs.Str.{IsUtf8}
 use Rattle.std.proofs.lemmas.Bool.{cases_lt}
+use Rattle.dcm_base.specs.Reading.Reads.{INPUT_LIMIT}
 use Rattle.dcm_devices.specs.Writing.{Writer}
 use Rattle.dcm_files.specs.declared.folders.Found.{Found}
 use Rattle.dcm_files.specs.declared.folders.FoundKind.{FoundKind}
@@ -29,8 +30,8 @@ use Rattle.dcm_trees.specs.Place.{Looks, AreFolders, LooksAlong, Finds, end_of_w
 use Rattle.dcm_tree_laws.specs.Again.{IsAt, sure}
 use Rattle.dcm_tree_laws.specs.Determined.{FileAt, working_may, working_folders, as_whole, working}
 use Rattle.dcm_tree_laws.specs.FileSystem.{FileSystem, Host, number_of, place_of, may_do, folders_do}
-use Rattle.dcm_tree_laws.specs.Stays.{Stays}
-use Rattle.dcm_tree_laws.proofs.CopyLeft.{followed}
+use Rattle.dcm_tree_laws.proofs.Near.{IsNear, Stays}
+use Rattle.dcm_tree_laws.proofs.CopyLeft.{followed, met_fate}
 use Rattle.dcm_tree_laws.proofs.Files.{gives_free}
 use Rattle.dcm_tree_laws.proofs.Given.{IsReady, Ready, ready, then_steps}
 use Rattle.dcm_tree_laws.proofs.Held.{GivesAll}
@@ -43,7 +44,7 @@ use Rattle.dcm_tree_laws.proofs.Naming.{phase_of, clears_part}
 use Rattle.dcm_tree_laws.proofs.Steps.{idle, whole, Steps}
 use Rattle.dcm_tree_laws.proofs.Sure as sures
 use Rattle.dcm_tree_laws.proofs.WholePart.{stays_since, stays_then}
-use Rattle.dcm_tree_laws.proofs.Working.{working_also, working_can, working_sure, compared_bytes}
+use Rattle.dcm_tree_laws.proofs.Working.{working_also, working_can, working_sure, compared_same, compared_bytes}
 use Rattle.dcm_tree_laws.proofs.Works as works
 
 -- ---- what was seen
@@ -180,30 +181,47 @@ module _ {I O : Type 0} (F : Type 0) (h : Host I O) (r : Reader I) (w : Writer O
 
 -- ---- it is there at the end
 
-there_naming : (naming : Naming) (fate : Fate) (same : Bool) → is_written fate ≡ true → naming_fate naming fate same ≡ fates.There → (naming ≡ NotFree spots.There) × (same ≡ true)
-there_naming Linked fate same written e = true_false (is_written fate) written (ap is_written e)
-there_naming Moved fate same written e = true_false (is_written fate) written (ap is_written e)
-there_naming (NotFree spots.There) fate true written e = (refl, refl)
-there_naming (NotFree spots.There) fate false written e = absurd (cc)
-there_naming (NotFree spots.Taken) fate same written e = absurd (cc)
-there_naming (NotFree spots.Free) fate same written e = absurd (cc)
-there_naming Failed fate same written e = absurd (cc)
+-- its bytes are those of the part; or they are others, where the part has no more than an input may have
+abbrev pub MetBytes : (alike : Bool) → (held its : List ℕ) → Type 0
+MetBytes true held its = its ≡ held
+MetBytes false held its = length held ≤ INPUT_LIMIT → its ≢ held
+
+there_naming : (alike : Bool) (naming : Naming) (fate : Fate) (same : Bool) → is_written fate ≡ true → naming_fate naming fate same ≡ met_fate alike → (naming ≡ NotFree spots.There) × (same ≡ alike)
+there_naming true Linked fate same written e = true_false (is_written fate) written (ap is_written e)
+there_naming true Moved fate same written e = true_false (is_written fate) written (ap is_written e)
+there_naming true (NotFree spots.There) fate true written e = (refl, refl)
+there_naming true (NotFree spots.There) fate false written e = absurd (cc)
+there_naming true (NotFree spots.Taken) fate same written e = absurd (cc)
+there_naming true (NotFree spots.Free) fate same written e = absurd (cc)
+there_naming true Failed fate same written e = absurd (cc)
+there_naming false Linked fate same written e = true_false (is_written fate) written (ap is_written e)
+there_naming false Moved fate same written e = true_false (is_written fate) written (ap is_written e)
+there_naming false (NotFree spots.There) fate true written e = absurd (cc)
+there_naming false (NotFree spots.There) fate false written e = (refl, refl)
+there_naming false (NotFree spots.Taken) fate same written e = absurd (cc)
+there_naming false (NotFree spots.Free) fate same written e = absurd (cc)
+there_naming false Failed fate same written e = absurd (cc)
 
 module _ {I O E : Type 0} (F : Type 0) (h : Host I O) (r : Reader I) (w : Writer O) (e : Writer E) (all : GivesAll h (as_whole h r) w) (m : Manner) (text : IsUtf8 m.part) (leads : h.leads Followed m.part ≡ place_of h m.part) where
-  copy_bytes : (path : List ℕ) (naming : Naming) (s : FileSystem) (same : Bool) (after : FileSystem) → naming ≡ NotFree spots.There → same ≡ true → FindsCopy (working_may h r w (may_do h)) (as_whole h r) naming m.part path s same after → IsUtf8 path → (f : FileAt h Followed s.now m.part) → (g : FileAt h Followed s.now path)
-      → s.now.bytes (number_of f.file) ≡ s.now.bytes (number_of g.file)
-  copy_bytes path naming s same after named alike (instance.not_there none is stays) path_text f g = true_false (is_there naming) (ap is_there named) none
-  copy_bytes path naming s same after named alike (instance.compared there c) path_text f g =
-      compared_bytes h r w all m.part path s after text path_text f g (subst (λ (b : Bool). ComparesFiles (working_may h r w (may_do h)) (as_whole h r) m.part path s b after) alike c)
+  by_answer : (path : List ℕ) (s : FileSystem) (same alike : Bool) (after : FileSystem) → same ≡ alike → ComparesFiles (working_may h r w (may_do h)) (as_whole h r) m.part path s same after → IsUtf8 path → (f : FileAt h Followed s.now m.part) → (g : FileAt h Followed s.now path)
+      → MetBytes alike (s.now.bytes (number_of f.file)) (s.now.bytes (number_of g.file))
+  by_answer path s same true after is c path_text f g = sym (compared_bytes h r w all m.part path s after text path_text f g (subst (λ (b : Bool). ComparesFiles (working_may h r w (may_do h)) (as_whole h r) m.part path s b after) is c))
+  by_answer path s same false after is c path_text f g = λ fits equal.
+      true_false same (compared_same h r w all m.part path s same after (s.now.bytes (number_of f.file)) text path_text f g refl equal fits c) is
 
-  pub placed_met : (name relative held : List ℕ) (fate : Fate) (from : E) (start s : FileSystem) (became : Fate) (to : E) (after : FileSystem) → nat_le (length (below m.output relative)) PATH_LIMIT ≡ true → IsReady h (λ mode bytes. bytes ≡ held) m.part m.output held start s
+  copy_bytes : (path : List ℕ) (naming : Naming) (s : FileSystem) (same alike : Bool) (after : FileSystem) → naming ≡ NotFree spots.There → same ≡ alike → FindsCopy (working_may h r w (may_do h)) (as_whole h r) naming m.part path s same after → IsUtf8 path → (f : FileAt h Followed s.now m.part) → (g : FileAt h Followed s.now path)
+      → MetBytes alike (s.now.bytes (number_of f.file)) (s.now.bytes (number_of g.file))
+  copy_bytes path naming s same alike after named is (instance.not_there none not stays) path_text f g = true_false (is_there naming) (ap is_there named) none
+  copy_bytes path naming s same alike after named is (instance.compared there c) path_text f g = by_answer path s same alike after is c path_text f g
+
+  pub placed_met : (alike : Bool) (name relative held : List ℕ) (fate : Fate) (from : E) (start s : FileSystem) (became : Fate) (to : E) (after : FileSystem) → nat_le (length (below m.output relative)) PATH_LIMIT ≡ true → IsReady h (λ mode bytes. bytes ≡ held) m.part m.output held start s
       → place_of h (below m.output relative) ≢ place_of h m.part
       → ((u : FileSystem) → Stays h m.part m.output start.now u.now → IsAt h kinds.File u.now (below m.output relative) → h.leads Followed (below m.output relative) ≡ place_of h (below m.output relative))
-      → is_written fate ≡ true → became ≡ fates.There → PlacesPart (working {F = F} h r w e) m name (below m.output relative) fate from s became to after → MadeAt h (λ mode bytes. bytes ≡ held) m.part m.output relative after.now
-  placed_met name relative held fate from start s became to after fits is_ready apart follows written is p =
+      → is_written fate ≡ true → became ≡ met_fate alike → PlacesPart (working {F = F} h r w e) m name (below m.output relative) fate from s became to after → MadeAt h (λ mode bytes. MetBytes alike held bytes) m.part m.output relative after.now
+  placed_met alike name relative held fate from start s became to after fits is_ready apart follows written is p =
       let path : List ℕ = below m.output relative in
       let IsHeld : ℕ → List ℕ → Type 0 = λ mode bytes. bytes ≡ held in
-      let naming : (p.naming ≡ NotFree spots.There) × (p.same ≡ true) = there_naming p.naming fate p.same written (sym p.becomes ∙ is) in
+      let naming : (p.naming ≡ NotFree spots.There) × (p.same ≡ alike) = there_naming alike p.naming fate p.same written (sym p.becomes ∙ is) in
       let steps : Steps h IsHeld m.part m.output (whole held) s (whole held) p.named =
       subst (λ (x : Naming). Steps h IsHeld m.part m.output (whole held) s (phase_of held x) p.named) naming.0 (gives_free {I = I} {F = F} h IsHeld m.part m.output held path relative refl s p.naming p.named
       (works.gives_free (working_may h r w (may_do h)) (may_do h) (working_also h r w) (working_folders h (sure (folders_do {F = F} h))) (folders_do {F = F} h) (working_can {F = F} h) m.part path (length m.output + 1) s p.naming p.named p.gives)) in
@@ -211,12 +229,12 @@ module _ {I O E : Type 0} (F : Type 0) (h : Host I O) (r : Reader I) (w : Writer
       let part : Ready h IsHeld m.part p.named.now = ready named in
       let there : FileThere F h path (length m.output + 1) p.named = met F h r w m.part path (length m.output + 1) s p.naming p.named naming.0 p.gives in
       let copy : FileAt h Followed p.named.now path = followed h p.named.now path there.file.found (follows p.named (stays_since named) there.file) there.file.is there.file.kind_is in
-      let same : p.named.now.bytes (number_of part.file) ≡ p.named.now.bytes (number_of there.file.found) =
-      copy_bytes path p.naming p.named p.same p.compared naming.0 naming.1 p.copy there.file.text (followed h p.named.now m.part part.file leads part.is part.kind) copy in
-      let made : MadeAt h IsHeld m.part m.output relative p.named.now = record {
+      let met_bytes : MetBytes alike (p.named.now.bytes (number_of part.file)) (p.named.now.bytes (number_of there.file.found)) =
+      copy_bytes path p.naming p.named p.same alike p.compared naming.0 naming.1 p.copy there.file.text (followed h p.named.now m.part part.file leads part.is part.kind) copy in
+      let made : MadeAt h (λ mode bytes. MetBytes alike held bytes) m.part m.output relative p.named.now = record {
         fits = fits;
         text = there.file.text;
-        out = record { file = there.file.found; is = there.file.is; kind = there.file.kind_is; whole = sym same ∙ part.done; apart = apart };
+        out = record { file = there.file.found; is = there.file.is; kind = there.file.kind_is; whole = subst (λ (b : List ℕ). MetBytes alike b (p.named.now.bytes (number_of there.file.found))) part.done met_bytes; apart = apart };
         way = λ folder behind cut.
             let at : IsAt h kinds.Folder p.named.now (below m.output folder) = there.way (below m.output folder) behind (way_joined m.output relative folder behind cut) (omega (arith, within_it m.output folder)) in
             record { at = at; apart = kinds_apart p.named.now (place_of h (below m.output folder)) (place_of h m.part) at.found part.file at.is part.is at.kind_is part.kind };
@@ -225,6 +243,6 @@ module _ {I O E : Type 0} (F : Type 0) (h : Host I O) (r : Reader I) (w : Writer
       (works.finds_copy (working_may h r w (may_do h)) (may_do h) (working_also h r w) (as_whole h r) p.naming m.part path p.named p.same p.compared p.copy) in
       let gone : Steps h IsHeld m.part m.output (whole held) p.named idle after =
       subst (λ (x : FileSystem). Steps h IsHeld m.part m.output (whole held) x idle after) compared
-      (subst (λ (x : Naming). Steps h IsHeld m.part m.output (phase_of held x) p.compared idle after) naming.0 (clears_part {I = I} h IsHeld m.part m.output held p.naming p.compared after
+      (subst (λ (x : Naming). Steps h IsHeld m.part m.output (phase_of held x) p.compared idle after) naming.0 (clears_part {I = I} h IsHeld m.part (IsNear m.output) held p.naming p.compared after
       (works.clears_part (working_may h r w (may_do h)) (may_do h) (working_also h r w) p.naming m.part p.compared after p.clears))) in
-      made_stays h IsHeld m.part m.output relative p.named.now after.now (stays_then idle after named gone) made
+      made_stays h (λ mode bytes. MetBytes alike held bytes) m.part m.output relative p.named.now after.now (stays_then idle after named gone) made

@@ -26,7 +26,7 @@ use Rattle.dcm_tree_laws.specs.Laws.{IsOutput, over, part_path}
 use Rattle.dcm_tree_laws.specs.OneRow.{RowsOf, no_visit, of_another, and_row}
 use Rattle.dcm_tree_laws.specs.Outputs.{HasOutput}
 use Rattle.dcm_tree_laws.specs.Rows.{Visit, noted}
-use Rattle.dcm_tree_laws.specs.Stays.{IsOfOutput, Stays}
+use Rattle.dcm_tree_laws.proofs.Near.{IsNear, Stays}
 use Rattle.dcm_tree_laws.proofs.Given.{NewOutput, none_some}
 use Rattle.dcm_tree_laws.proofs.Lists.{lines_do}
 use Rattle.dcm_tree_laws.proofs.Noted.{walk_noted, list_noted}
@@ -139,11 +139,11 @@ closed h IsWhole start m shared headed = record {
 
 -- what is known of a name before it is done, by what it shares with the others
 record Known {I O W : Type 0} (h : Host I O) (IsWhole : ℕ → List ℕ → Type 0) (start : Tree) (m : Writer W) (headed : W) (visits : List Visit) (stop : Option Stop) (manifest : W) (s : FileSystem) (shared : Shared) : Type 0 where
-  of_output : IsOfOutput (manner_of shared.manner).output (manner_of shared.manner).part
+  of_output : IsNear (manner_of shared.manner).output (manner_of shared.manner).part
   still : Still h (manner_of shared.manner).part start s.now
   rows : stop ≡ None → HasNew h IsWhole (manner_of shared.manner) start m shared headed visits manifest s.now
 
-visits_good : {I O F W E : Type 0} (h : Host I O) (start : Tree) (r : Reader I) (w : Writer O) (e : Writer E) (m : Writer W) (shared : Shared) (headed : W) → IsOfOutput (manner_of shared.manner).output (manner_of shared.manner).part
+visits_good : {I O F W E : Type 0} (h : Host I O) (start : Tree) (r : Reader I) (w : Writer O) (e : Writer E) (m : Writer W) (shared : Shared) (headed : W) → IsNear (manner_of shared.manner).output (manner_of shared.manner).part
     → VisitsDo (StaysGood h (IsOutput h r w) start m shared headed) (noted (visits_of (over {F = F} h r w e) m))
 visits_good {I} {O} {F} {W} {E} h start r w e m shared headed of_output from before n what result to after v good =
     let here : Shared = from.0.0.shared in
@@ -170,8 +170,8 @@ first h IsWhole m headed start from before none is = record {
   rows = λ stop. record { text = []; rows = no_visit refl refl; manifest_is = no_manifest m start.manifest headed is; there = tt; apart = tt };
 }
 
-manner_of_output : (run : TreeRun) (part : List ℕ) (shared : Shared) → Shares run part shared → part ≡ part_path run → IsOfOutput (manner_of shared.manner).output (manner_of shared.manner).part
-manner_of_output run part shared shares is = subst (λ (k : Manner). IsOfOutput k.output k.part) (sym shares.manner) (part_of_output run part is)
+manner_of_output : (run : TreeRun) (part : List ℕ) (shared : Shared) → Shares run part shared → part ≡ part_path run → IsNear (manner_of shared.manner).output (manner_of shared.manner).part
+manner_of_output run part shared shares is = subst (λ (k : Manner). IsNear k.output k.part) (sym shares.manner) (part_of_output run part is)
 
 pub outputs_are_distinct : {I O F W E : Type 0} (r : Reader I) (w : Writer O) (m : Writer W) (e : Writer E) → OutputsAreDistinct F r w m e
 outputs_are_distinct {I} {O} {F} {W} {E} r w m e h run path begun opened headed from before status left to after none part v stop =

@@ -37,7 +37,7 @@ use Rattle.dcm_tree_laws.specs.Copies.{IsNamedBy, EndsUnnamed, no_days, not_done
 use Rattle.dcm_tree_laws.specs.Determined.{FileAt, ComesTo, as_whole, working, working_may, working_folders}
 use Rattle.dcm_tree_laws.specs.FileSystem.{FileSystem, Tree, Host, number_of, place_of, at_path, may_do, folders_do, ClosesOutput}
 use Rattle.dcm_tree_laws.specs.Single.{IsJobOf}
-use Rattle.dcm_tree_laws.specs.Stays.{IsOfOutput}
+use Rattle.dcm_tree_laws.proofs.Near.{IsNear}
 use Rattle.dcm_tree_laws.specs.Together.{IsFree, NamesInstance}
 use Rattle.dcm_tree_laws.specs.ToldAs.{HasFileAt}
 use Rattle.dcm_tree_laws.proofs.CopyLeft.{WholeAt, whole_at, still_whole, followed}
@@ -120,7 +120,7 @@ place_there naming fate same is alike = ap (λ (x : Naming). naming_fate x fate 
 place_other : (naming : Naming) (fate : Fate) (same : Bool) → naming ≡ NotFree places.There → same ≡ false → naming_fate naming fate same ≡ fates.Occupied
 place_other naming fate same is alike = ap (λ (x : Naming). naming_fate x fate same) is ∙ ap (λ (b : Bool). naming_fate (NotFree places.There) fate b) alike
 
-module _ {I O E : Type 0} (F : Type 0) (h : Host I O) (r : Reader I) (w : Writer O) (e : Writer E) (all : GivesAll h (as_whole h r) w) (k : Manner) (part_text : IsUtf8 k.part) (of_output : IsOfOutput k.output k.part) (leads : h.leads Followed k.part ≡ place_of h k.part) where
+module _ {I O E : Type 0} (F : Type 0) (h : Host I O) (r : Reader I) (w : Writer O) (e : Writer E) (all : GivesAll h (as_whole h r) w) (k : Manner) (part_text : IsUtf8 k.part) (of_output : IsNear k.output k.part) (leads : h.leads Followed k.part ≡ place_of h k.part) where
   -- the part is whole, and a file is at the name
   record AtOutput (relative held its : List ℕ) (s : FileSystem) : Type 0 where
     part : FileAt h Followed s.now k.part

@@ -41,7 +41,7 @@ use Rattle.dcm_tree_laws.specs.Determined.{FileAt, working_may, working_folders,
 use Rattle.dcm_tree_laws.specs.FileSystem.{FileSystem, Tree, Host, number_of, at_path, may_do, folders_do}
 use Rattle.dcm_tree_laws.specs.Laws.{IsOutput}
 use Rattle.dcm_tree_laws.specs.Single.{IsJobOf}
-use Rattle.dcm_tree_laws.specs.Stays.{IsOfOutput}
+use Rattle.dcm_tree_laws.proofs.Near.{IsNear}
 use Rattle.dcm_tree_laws.specs.Together.{TakesFolder, IsFree, end_fate}
 use Rattle.dcm_tree_laws.proofs.Files.{path_is}
 use Rattle.dcm_tree_laws.proofs.Filling.{part_is_made, part_is_new, is_filled_as, is_output}
@@ -54,7 +54,8 @@ use Rattle.dcm_tree_laws.proofs.Looking.{along, folders, beyond, finds, same_ok}
 use Rattle.dcm_tree_laws.proofs.Making as making
 use Rattle.dcm_tree_laws.proofs.Steps.{idle, writing, whole, quiet}
 use Rattle.dcm_tree_laws.proofs.Sure as sures
-use Rattle.dcm_tree_laws.proofs.Touched.{Touches, way_folder, WayFolder, are_made, way_made, made_part, filled, no_done}
+use Rattle.dcm_tree_laws.proofs.Touched.{Touches, are_made, way_made, made_part, filled, no_done}
+use Rattle.dcm_tree_laws.proofs.Ways.{way_folder, WayFolder}
 use Rattle.dcm_tree_laws.proofs.WholePart.{IsReady, ready, then_steps}
 use Rattle.dcm_tree_laws.proofs.Works as works
 use Rattle.dcm_tree_laws.proofs.Working.{working_also, working_sure, working_can, not_unopened, is_opened, IsOpened, job_found, JobIs, job_done, HasDone}
@@ -218,7 +219,7 @@ pub record IsHere {I O : Type 0} (h : Host I O) (path bytes : List ℕ) (t : Tre
   pub file : FileAt h Followed t path
   pub bytes_are : t.bytes (number_of file.file) ≡ bytes
 
-module _ {I O F E : Type 0} (h : Host I O) (r : Reader I) (w : Writer O) (e : Writer E) (all : GivesAll h (as_whole h r) w) (k : Manner) (n : Named) (clear : Frees h k n.relative) (part_text : IsUtf8 k.part) (of_output : IsOfOutput k.output k.part) (text : IsUtf8 n.path) where
+module _ {I O F E : Type 0} (h : Host I O) (r : Reader I) (w : Writer O) (e : Writer E) (all : GivesAll h (as_whole h r) w) (k : Manner) (n : Named) (clear : Frees h k n.relative) (part_text : IsUtf8 k.part) (of_output : IsNear k.output k.part) (text : IsUtf8 n.path) where
   filled_so : (job : Job) (path bytes : List ℕ) → path ≡ below k.output n.relative → (mode : ℕ) (input : I) (output : O) → r.has_failed input ≡ false → h.holds input ≡ bytes → h.took output ≡ [] → IsJobOf k.task bytes job → (from : E) (start before : FileSystem) (fate : Fate) (to : E) (after : FileSystem)
       → IsIdle h (IsOutput h (as_whole h r) w) k.part k.output (writing (h.masked mode)) start before → IsFree h k.output n.relative before.now → FillsAndNames (working {F = F} h r w e) job k n.name path input output from before fate to after → Fated k.task bytes fate
   filled_so job path bytes is mode input output sound holds new is_job from start before fate to after i free (parts.not_done ending was_filled f not told gone x) =

@@ -39,7 +39,7 @@ use Rattle.dcm_tree_laws.specs.Again.{sure}
 use Rattle.dcm_tree_laws.specs.Determined.{working_may, as_whole, working, ComesTo}
 use Rattle.dcm_tree_laws.specs.FileSystem.{FileSystem, Tree, Host, number_of, place_of, may_do, folders_do}
 use Rattle.dcm_tree_laws.specs.Single.{IsJobOf}
-use Rattle.dcm_tree_laws.specs.Stays.{IsOfOutput}
+use Rattle.dcm_tree_laws.proofs.Near.{IsNear}
 use Rattle.dcm_tree_laws.specs.Together.{IsFree, NamesInstance}
 use Rattle.dcm_tree_laws.proofs.Ends.{comes_once, one_instance, has_days}
 use Rattle.dcm_tree_laws.proofs.Fates.{Works, Frees, IsHere, as_any, finds_free, gets_name, then_free, part_not}
@@ -103,7 +103,7 @@ module _ {I O F : Type 0} (h : Host I O) (r : Reader I) (w : Writer O) (k : Mann
 
 -- ---- a file
 
-module _ {I O F E : Type 0} (h : Host I O) (r : Reader I) (w : Writer O) (e : Writer E) (all : GivesAll h (as_whole h r) w) (k : Manner) (part_text : IsUtf8 k.part) (of_output : IsOfOutput k.output k.part) (leads : h.leads Followed k.part ≡ place_of h k.part) where
+module _ {I O F E : Type 0} (h : Host I O) (r : Reader I) (w : Writer O) (e : Writer E) (all : GivesAll h (as_whole h r) w) (k : Manner) (part_text : IsUtf8 k.part) (of_output : IsNear k.output k.part) (leads : h.leads Followed k.part ≡ place_of h k.part) where
   by_name : (IsWhole : ℕ → List ℕ → Type 0) (name bytes out : List ℕ) (i : Instance) (fate : Fate) (from : E) (first start before : FileSystem) (done : Done) (to : E) (after : FileSystem) → NamesInstance k.task bytes out (uids_of i) → is_written fate ≡ true
       → IsReady h IsWhole k.part k.output out start before → (IsFree h k.output (name_of_instance i) first.now → Frees h k (name_of_instance i) → IsFree h k.output (name_of_instance i) before.now)
       → NamesBy (working {F = F} h r w e) k name i fate from before done to after → EndsNamed h k bytes first.now done

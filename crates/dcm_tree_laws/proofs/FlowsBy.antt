@@ -38,11 +38,13 @@ use Rattle.dcm_tree_laws.specs.Part.{LeavesPart}
 use Rattle.dcm_tree_laws.specs.Rows.{Visit, noted}
 use Rattle.dcm_tree_laws.specs.Single.{TellsAll}
 use Rattle.dcm_tree_laws.specs.Stays.{IsOfOutput}
+use Rattle.dcm_tree_laws.proofs.Below.{part_is_within}
 use Rattle.dcm_tree_laws.proofs.Becomes.{Becomes, BecomeAlike, becomes, becomes_once}
 use Rattle.dcm_tree_laws.proofs.CopiesBy.{over_visit}
 use Rattle.dcm_tree_laws.proofs.Given.{none_some}
 use Rattle.dcm_tree_laws.proofs.Lists.{lines_do}
 use Rattle.dcm_tree_laws.proofs.Onwards.{calls_of, calls_quiet}
+use Rattle.dcm_tree_laws.proofs.Near.{IsNear}
 use Rattle.dcm_tree_laws.proofs.OutputsBy.{Leaves, leaves, Still, then_stays, part_of_output}
 use Rattle.dcm_tree_laws.proofs.PartsBy.{visit_leaves}
 use Rattle.dcm_tree_laws.proofs.Quiet.{only_quiet, IsClosed, IsSame}
@@ -138,7 +140,7 @@ same_becomes {I} {O} {F} r w e h m v k from to before after done from_other to_o
 
 -- how its names are done
 record Goes {I O : Type 0} (h : Host I O) (w : Writer O) (start : Tree) (k : Manner) : Type 0 where
-  of_output : IsOfOutput k.output k.part
+  of_output : IsNear k.output k.part
   tells : TellsAll h w
   by : k.keeps_names ≡ false
   text : IsUtf8 k.part
@@ -339,5 +341,5 @@ leave_the_same {I} {O} {F} {W} {E} r w m e h first second before start after end
     let chain : Chain h first.output.now (part_path first) (task_of first.task) start others other.greatest other.is_empty end =
     as_first h first.output.now (part_path first) second.output.now (part_path second) (task_of first.task) (task_of second.task) start others other.greatest other.is_empty end output (same_part first second output x_all.number y_all.number) task other.chain in
     let alike : ChainsAlike h first.output.now one.greatest other.greatest one.is_empty other.is_empty after end =
-    chains_alike h first.output.now (part_path first) (task_of first.task) before start (part_of_output first (part_path first) refl) same visits others one.greatest other.greatest one.is_empty other.is_empty after end x_all.removed y_all.removed pairs one.chain chain in
+    chains_alike h first.output.now (part_path first) (task_of first.task) before start (part_is_within first.output.now (part_path first) first.options.part.number refl) same visits others one.greatest other.greatest one.is_empty other.is_empty after end x_all.removed y_all.removed pairs one.chain chain in
     (alike.same, other.status_is ∙ same_status one.is_empty other.is_empty one.greatest other.greatest alike.empty_is alike.status_is ∙ sym one.status_is)

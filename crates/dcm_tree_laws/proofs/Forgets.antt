@@ -1,7 +1,7 @@
 -- Steps do not depend on what was noted before them.
 use Rattle.std.proofs.Common.{◌≡◌, refl, ap, subst, ℕ, List, [], ◌∷◌, Option, Some, None}
 use Rattle.dcm_tree_laws.specs.FileSystem.{FileSystem, Tree, Number, Host, Notes, TakesPieces, no_piece, and_piece, ClosesOutput, MovesWhat, a_file, same_file, a_folder}
-use Rattle.dcm_tree_laws.specs.Stays.{IsOfOutput}
+use Rattle.dcm_tree_laws.proofs.Near.{IsNear}
 use Rattle.dcm_tree_laws.proofs.Both.{Both, after_steps}
 use Rattle.dcm_tree_laws.proofs.Steps.{Phase, idle, Step, folder, part_made, filled, not_filled, named, moved, removed, left, not_removed, Steps, no_step, and_step}
 
@@ -54,11 +54,11 @@ steps_past past (and_step b m more last) =
     (y.0, and_step b (with_past x.0 m) x.1 y.1)
 
 -- what holds after steps from any state in which nothing is being written, as if it were the first
-pub after_any : {I O : Type 0} (h : Host I O) (IsWhole : ℕ → List ℕ → Type 0) (part output : List ℕ) (before : FileSystem) → before.written ≡ None → IsOfOutput output part → (then : Phase) (after : FileSystem)
+pub after_any : {I O : Type 0} (h : Host I O) (IsWhole : ℕ → List ℕ → Type 0) (part output : List ℕ) (before : FileSystem) → before.written ≡ None → IsNear output part → (then : Phase) (after : FileSystem)
     → Steps h IsWhole part output idle before then after → (past : List Tree) × Both h IsWhole part output before.now then (with_past past after)
 after_any h IsWhole part output before quiet of_output then after steps =
     let x = steps_past [] steps in (
       x.0,
-      after_steps h IsWhole part output before.now before.unremoved of_output then (with_past x.0 after)
+      after_steps h IsWhole part (IsNear output) before.now before.unremoved of_output then (with_past x.0 after)
           (subst (λ (w : Option Number). Steps h IsWhole part output idle (record { now = before.now; earlier = []; written = w; unremoved = before.unremoved }) then (with_past x.0 after)) quiet x.1),
     )

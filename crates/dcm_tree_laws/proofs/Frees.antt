@@ -10,7 +10,7 @@ use Rattle.dcm_tree_laws.specs.Again.{OfAll}
 use Rattle.dcm_tree_laws.specs.FileSystem.{Tree, Host, number_of, place_of, at_path}
 use Rattle.dcm_tree_laws.specs.Rows.{Visit}
 use Rattle.dcm_tree_laws.specs.Single.{IsAnswered}
-use Rattle.dcm_tree_laws.specs.Stays.{Stays}
+use Rattle.dcm_tree_laws.proofs.Near.{Stays}
 use Rattle.dcm_tree_laws.specs.Together.{IsNoPart, TakesFolder, IsFree, HasBytes, GoesBeside, no_file, same_output, other_output}
 use Rattle.dcm_tree_laws.proofs.Given.{same_found}
 use Rattle.dcm_tree_laws.proofs.Touched.{IsOnWay, Touched, Touches, as_it_was, at_part, at_output, at_folder}

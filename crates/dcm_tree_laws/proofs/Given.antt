@@ -16,7 +16,7 @@ use Rattle.dcm_trees.specs.Part as spec
 use Rattle.dcm_trees.specs.Part.{RemovesPart, MovesPart, MovesIfFree, GivesSecondName, GivesName, ClearsPart, naming_fate}
 use Rattle.dcm_tree_laws.specs.FileSystem.{FileSystem, Host, Tree, number_of, place_of, may_do, folders_do, HasWay, at_path, MakesLink, MovesWhat, a_file, same_file, a_folder, Removes, SameBytes}
 use Rattle.dcm_tree_laws.specs.Outputs.{HasOutput}
-use Rattle.dcm_tree_laws.specs.Stays.{within, Stays}
+use Rattle.dcm_tree_laws.proofs.Near.{IsNear, near, Stays}
 use Rattle.dcm_tree_laws.proofs.Looking.{finds, free_nothing}
 use Rattle.dcm_tree_laws.proofs.MadeWay.{FolderAt, folder_stays, way_made}
 use Rattle.dcm_tree_laws.proofs.Making.{makes_way}
@@ -134,7 +134,7 @@ name_given {I} {O} {F} {h} {IsWhole} {part} {output} {bytes} {start} {s} {after}
     let steps : Steps h IsWhole part output (whole bytes) s (whole bytes) has_way = makes_way {F = F} h IsWhole part output (whole bytes) refl path relative is (length output + 1) (omega arith) s (Ok _) has_way m in
     let on_way : IsReady h IsWhole part output bytes start has_way = then_steps r steps in
     let stays : Stays h part output has_way.now after.now =
-    stays_then (phase_of bytes naming) after on_way (gives_second {I = I} {F = F} h IsWhole part output bytes path (within relative is) (length output + 1) (omega arith) has_way naming after g) in
+    stays_then (phase_of bytes naming) after on_way (gives_second {I = I} {F = F} h IsWhole part (IsNear output) bytes path (near relative is) (length output + 1) (omega arith) has_way naming after g) in
     record {
       name = second_named {I = I} {F = F} path (length output + 1) (omega arith) on_way naming g named;
       way = λ folder behind cut inside. folder_stays h part output has_way.now after.now folder stays (way_made {F = F} h IsWhole part output bytes start path relative is s has_way r (Ok _) refl m folder behind cut inside);

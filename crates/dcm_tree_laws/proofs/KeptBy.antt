@@ -37,7 +37,7 @@ use Rattle.dcm_tree_laws.specs.OneRow.{RowsOf, no_visit, of_another, and_row}
 use Rattle.dcm_tree_laws.specs.Part.{LeavesPart}
 use Rattle.dcm_tree_laws.specs.Rows.{Visit, noted}
 use Rattle.dcm_tree_laws.specs.Single.{TellsAll}
-use Rattle.dcm_tree_laws.specs.Stays.{IsOfOutput}
+use Rattle.dcm_tree_laws.proofs.Near.{IsNear}
 use Rattle.dcm_tree_laws.specs.Together.{IsFree, its_own}
 use Rattle.dcm_tree_laws.proofs.CopiesBy.{working_quiet, over_visit, as_always, then_as, apart_by, file_still, StandsAgain, same_now, nameless_again, no_file_again}
 use Rattle.dcm_tree_laws.proofs.KeptLeft.{file_without}
@@ -179,7 +179,7 @@ rows_if h r w e m shared headed Is IsSo from told_before before n what result to
 
 -- how they are done
 record Goes {I O : Type 0} (h : Host I O) (w : Writer O) (start : Tree) (k : Manner) : Type 0 where
-  of_output : IsOfOutput k.output k.part
+  of_output : IsNear k.output k.part
   tells : TellsAll h w
   goes : k.continues ≡ true
   keeps : k.keeps_names ≡ true

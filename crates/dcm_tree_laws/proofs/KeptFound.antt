@@ -31,7 +31,7 @@ use Rattle.dcm_tree_laws.specs.Laws.{IsOutput, over, part_path}
 use Rattle.dcm_tree_laws.specs.Part.{LeavesPart}
 use Rattle.dcm_tree_laws.specs.Rows.{Visit, noted}
 use Rattle.dcm_tree_laws.specs.Single.{TellsAll}
-use Rattle.dcm_tree_laws.specs.Stays.{IsOfOutput, Stays}
+use Rattle.dcm_tree_laws.proofs.Near.{IsNear, Stays}
 use Rattle.dcm_tree_laws.specs.Together.{end_fate, its_own}
 use Rattle.dcm_tree_laws.proofs.CopiesBy.{working_quiet, over_visit, apart_by, file_still, written_again}
 use Rattle.dcm_tree_laws.proofs.KeptMade.{Any, How, was_met, by_bytes, unsettled, file_how}
@@ -57,7 +57,7 @@ true_false b e f = absurd (cc)
 
 -- how the names of a run are done
 record Goes {I O : Type 0} (h : Host I O) (w : Writer O) (start : Tree) (k : Manner) : Type 0 where
-  of_output : IsOfOutput k.output k.part
+  of_output : IsNear k.output k.part
   tells : TellsAll h w
   keeps : k.keeps_names ≡ true
   none : at_path h start k.part ≡ None

@@ -30,7 +30,7 @@ use Rattle.dcm_tree_laws.specs.Copied.{is_settled}
 use Rattle.dcm_tree_laws.specs.Determined.{FileAt, working_may, as_whole, working}
 use Rattle.dcm_tree_laws.specs.FileSystem.{FileSystem, Tree, Host, number_of, place_of, at_path, may_do, folders_do}
 use Rattle.dcm_tree_laws.specs.Single.{IsJobOf}
-use Rattle.dcm_tree_laws.specs.Stays.{IsOfOutput}
+use Rattle.dcm_tree_laws.proofs.Near.{IsNear}
 use Rattle.dcm_tree_laws.proofs.CopiesBy.{apart_by}
 use Rattle.dcm_tree_laws.proofs.CopyMade.{NewPart, new_part}
 use Rattle.dcm_tree_laws.proofs.CopyMet.{FileThere, place_there, met_second}
@@ -82,7 +82,7 @@ met_fate spots.There false fate is met or = or (ap is_settled is)
 met_fate spots.Taken continues fate is met or = or (ap is_settled is)
 met_fate spots.Free continues fate is met or = or (ap is_settled is)
 
-module _ {I O E : Type 0} (F : Type 0) (h : Host I O) (r : Reader I) (w : Writer O) (e : Writer E) (all : GivesAll h (as_whole h r) w) (m : Manner) (of_output : IsOfOutput m.output m.part) where
+module _ {I O E : Type 0} (F : Type 0) (h : Host I O) (r : Reader I) (w : Writer O) (e : Writer E) (all : GivesAll h (as_whole h r) w) (m : Manner) (of_output : IsNear m.output m.part) where
   -- where it has that fate, its output is at another place than the part
   abbrev Apart : (relative : List ℕ) → Fate → Type 0
   Apart relative fate = fate ≡ fates.There → place_of h (below m.output relative) ≢ place_of h m.part
@@ -127,7 +127,7 @@ module _ {I O E : Type 0} (F : Type 0) (h : Host I O) (r : Reader I) (w : Writer
             record { at = at; apart = kinds_apart x.named.now (place_of h (below m.output folder)) (place_of h m.part) at.found part.file at.is part.is at.kind_is part.kind };
       } in
       let gone : Steps h IsHeld m.part m.output (whole held) x.named idle after =
-      subst (λ (n : Naming). Steps h IsHeld m.part m.output (phase_of held n) x.named idle after) there (clears_part {I = I} h IsHeld m.part m.output held x.naming x.named after
+      subst (λ (n : Naming). Steps h IsHeld m.part m.output (phase_of held n) x.named idle after) there (clears_part {I = I} h IsHeld m.part (IsNear m.output) held x.naming x.named after
       (works.clears_part (working_may h r w (may_do h)) (may_do h) (working_also h r w) x.naming m.part x.named after x.clears)) in
       made_stays h Any m.part m.output relative x.named.now after.now (stays_then idle after named gone) made
 

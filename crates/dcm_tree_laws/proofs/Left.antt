@@ -1,7 +1,6 @@
 -- A name whose output is there is left as it is.
 use Rattle.std.proofs.Common.{◌≡◌, ◌∙◌, refl, sym, ap, subst, ℕ, ◌+◌, ◌-◌, ◌≤◌, List, [], ◌++◌, length, take, drop, Bool, true, false, Option, Some, None, Result, Ok, arith, append_assoc, length-append}
 use Rattle.std.specs.Prelude.{nat_le, codes, if◌then◌else◌}
-use Rattle.std.proofs.lemmas.List.{append_cancel_left}
 use Rattle.dcm_devices.specs.Writing.{Writer}
 use Rattle.dcm_files.specs.declared.folders.Found.{Found}
 use Rattle.dcm_files.specs.declared.folders.FoundKind.{FoundKind}
@@ -29,7 +28,7 @@ use Rattle.dcm_tree_laws.proofs.Files.{path_is}
 use Rattle.dcm_tree_laws.proofs.Looking.{folders, along, beyond, finds}
 use Rattle.dcm_tree_laws.proofs.Quiet.{Quiet, are_quiet}
 use Rattle.dcm_tree_laws.proofs.Sure as sures
-use Rattle.dcm_tree_laws.proofs.Ways.{on_its_way, within_output}
+use Rattle.dcm_tree_laws.proofs.Ways.{on_its_way, within_output, way_cut}
 
 -- ---- what is seen
 
@@ -66,12 +65,6 @@ pub same_mode : (a b : ℕ) → File a ≡ File b → a ≡ b
 same_mode a b e = cc
 
 -- ---- the folders on the way
-
--- a folder on the way to an output is one of its name
-pub way_cut : (output relative folder rest : List ℕ) → below output relative ≡ below (below output folder) rest → relative ≡ below folder rest
-way_cut output relative folder rest is =
-    append_cancel_left (output ++ codes "/") relative (below folder rest)
-    (is ∙ ap (λ (x : List ℕ). x ++ rest) (append_assoc (output ++ codes "/") folder (codes "/")) ∙ append_assoc (output ++ codes "/") (folder ++ codes "/") rest)
 
 is_folder : {I O : Type 0} (h : Host I O) (output relative path : List ℕ) (t : Tree) → path ≡ below output relative → IsThere h output relative t → (at size : ℕ) → length output + 1 ≤ at → IsSlash (drop at path) (Some size)
     → IsAt h kinds.Folder t (take (at + size) path)

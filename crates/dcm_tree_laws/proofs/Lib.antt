@@ -6,6 +6,9 @@ pub mod Quiet
 pub mod Walks
 pub mod Lists
 pub mod Ways
+pub mod Near
+pub mod Below
+pub mod Gives
 pub mod Noted
 pub mod Looking
 pub mod Making
@@ -18,6 +21,7 @@ pub mod Runs
 pub mod OfRuns
 pub mod RowsBy
 pub mod Programs
+pub mod HalvesBy
 pub mod Forgets
 pub mod WholePart
 pub mod MadeWay

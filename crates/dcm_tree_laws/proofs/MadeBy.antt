@@ -25,7 +25,7 @@ use Rattle.dcm_tree_laws.specs.FileSystem.{FileSystem, Tree, Host, folders_do}
 use Rattle.dcm_tree_laws.specs.Laws.{IsOutput, over, part_path}
 use Rattle.dcm_tree_laws.specs.Outputs.{HasOutput}
 use Rattle.dcm_tree_laws.specs.Rows.{Visit, noted}
-use Rattle.dcm_tree_laws.specs.Stays.{IsOfOutput, Stays}
+use Rattle.dcm_tree_laws.proofs.Near.{IsNear, Stays}
 use Rattle.dcm_tree_laws.proofs.Given.{NewOutput}
 use Rattle.dcm_tree_laws.proofs.Lists.{lines_do}
 use Rattle.dcm_tree_laws.proofs.Looking.{same_ok}
@@ -113,7 +113,7 @@ pub name_by : {I O F E : Type 0} (h : Host I O) (r : Reader I) (w : Writer O) (e
 name_by {I} {O} {F} h r w e m n what from before result to after done keeps (files.a_file mode is does) ok written = file_by {F = F} h r w e m n mode from before result to after done keeps does ok written
 name_by h r w e m n what from before result to after done keeps (files.no_file other told is same) ok written = of_fate result (fate_of what) done is ok (what_not what) written
 
-pub name_made : {I O F E : Type 0} (h : Host I O) (r : Reader I) (w : Writer O) (e : Writer E) (m : Manner) (n : Named) (what : What) (from : E) (before : FileSystem) (to : E) (after : FileSystem) (done : Done) → m.keeps_names ≡ true → before.written ≡ None → IsOfOutput m.output m.part
+pub name_made : {I O F E : Type 0} (h : Host I O) (r : Reader I) (w : Writer O) (e : Writer E) (m : Manner) (n : Named) (what : What) (from : E) (before : FileSystem) (to : E) (after : FileSystem) (done : Done) → m.keeps_names ≡ true → before.written ≡ None → IsNear m.output m.part
     → DoesName (over {F = F} h r w e) m n what from before (Ok done) to after → is_written done.fate ≡ true → MadeAt h (IsOutput h r w) m.part m.output n.relative after.now
 name_made {I} {O} {F} h r w e m n what from before to after done keeps none of_output does written =
     let by : ByName m n done = name_by {F = F} h r w e m n what from before (Ok done) to after done keeps does refl written in
@@ -128,7 +128,7 @@ Made h IsWhole m now v done = is_written done.fate ≡ true → MadeAt h IsWhole
 
 -- how they are done
 record Goes (k : Manner) : Type 0 where
-  of_output : IsOfOutput k.output k.part
+  of_output : IsNear k.output k.part
   keeps : k.keeps_names ≡ true
 
 record Good {I O W E : Type 0} (h : Host I O) (IsWhole : ℕ → List ℕ → Type 0) (m : Writer W) (shared : Shared) (headed : W) (x : (Work W × E) × List Visit) (s : FileSystem) : Type 0 where

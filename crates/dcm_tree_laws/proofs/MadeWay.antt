@@ -18,7 +18,7 @@ use Rattle.dcm_trees.specs.Place as places
 use Rattle.dcm_trees.specs.Place.{HasFolder, FindsFolder, AreMade, MakesWay, end_of_way, end_at}
 use Rattle.dcm_tree_laws.specs.Again.{IsAt}
 use Rattle.dcm_tree_laws.specs.FileSystem.{FileSystem, Host, Tree, place_of, at_path, folders_do}
-use Rattle.dcm_tree_laws.specs.Stays.{Stays}
+use Rattle.dcm_tree_laws.proofs.Near.{IsNear, Stays}
 use Rattle.dcm_tree_laws.proofs.Looking.{looks, seen_is}
 use Rattle.dcm_tree_laws.proofs.Making.{has_folder, are_made, beyond as far_made}
 use Rattle.dcm_tree_laws.proofs.Quiet.{are_quiet}
@@ -143,7 +143,7 @@ module _ {I O F : Type 0} (h : Host I O) (IsWhole : ℕ → List ℕ → Type 0)
       let ready_mid : IsReady h IsWhole part output bytes start mid = then_steps r (are_made {F = F} h IsWhole part output (whole bytes) refl path relative of_output base beyond s from mid more) in
       let far : base ≤ from = far_made {F = F} h path base s from mid more in
       let steps : Steps h IsWhole part output (whole bytes) mid (whole bytes) after =
-      has_folder {F = F} h IsWhole part output (whole bytes) refl (take (from + size) path) (way_is_of_output output relative path (from + size) of_output (omega (arith, beyond, far))) mid (Ok _) after has in
+      has_folder {F = F} h IsWhole part (IsNear output) (whole bytes) refl (take (from + size) path) (way_is_of_output output relative path (from + size) of_output (omega (arith, beyond, far))) mid (Ok _) after has in
       λ p least less is. way_more h part output path base from size at mid.now after.now slash a (stays_then (whole bytes) after ready_mid steps) (made_way path relative of_output base beyond s from mid r more)
       (folder_made (take (from + size) path) mid (Ok _) after ready_mid refl has) p least less is (cases_lt p from)
 

@@ -193,11 +193,11 @@ goes_whole h path base s way after gap block (places.ended at size seen end mid 
 
 -- each path on the way is alike in two trees
 abbrev pub AlikeOn : {I O : Type 0} → Host I O → (t u : Tree) → (path : List ℕ) → (base : ℕ) → Type 0
-AlikeOn h t u path base = (m : ℕ) → base ≤ m → AlikeAt t u (at_path h t (take m path)) (at_path h u (take m path))
+AlikeOn h t u path base = (at size : ℕ) → base ≤ at → IsSlash (drop at path) (Some size) → AlikeAt t u (at_path h t (take (at + size) path)) (at_path h u (take (at + size) path))
 
-step_once : {I O U : Type 0} (h : Host I O) (t u : Tree) (path : List ℕ) (base at k l : ℕ) (one other : Result (Option Found) U) → AlikeOn h t u path base → base ≤ at → k ≡ l → Sight h t (take (at + k) path) one → Sight h u (take (at + l) path) other → stop_seen one ≡ stop_seen other
-step_once h t u path base at k l one other alike least is first second =
-    stop_once h t u (take (at + k) path) one other (alike (at + k) (omega (arith, least))) first (subst (λ (n : ℕ). Sight h u (take (at + n) path) other) (sym is) second)
+step_once : {I O U : Type 0} (h : Host I O) (t u : Tree) (path : List ℕ) (base at k l : ℕ) (one other : Result (Option Found) U) → AlikeOn h t u path base → base ≤ at → IsSlash (drop at path) (Some k) → k ≡ l → Sight h t (take (at + k) path) one → Sight h u (take (at + l) path) other → stop_seen one ≡ stop_seen other
+step_once h t u path base at k l one other alike least slash is first second =
+    stop_once h t u (take (at + k) path) one other (alike at k least slash) first (subst (λ (n : ℕ). Sight h u (take (at + n) path) other) (sym is) second)
 
 same_some : {A : Type 0} (a b : A) (x y : Option A) → x ≡ Some a → y ≡ Some b → x ≡ y → a ≡ b
 same_some a b x y e f is = cc
@@ -211,12 +211,12 @@ way_once h t u path base stop other alike at least (to_its_end slash is) (ends l
 way_once h t u path base stop other alike at least (to_its_end slash is) (more l seen lacks s e g) = no_slash (drop at path) l slash lacks
 way_once h t u path base stop other alike at least (ends k seen why slash s e is) (to_its_end lacks w) = no_slash (drop at path) k lacks slash
 way_once h t u path base stop other alike at least (ends k seen why slash s e is) (ends l there last lacks z f w) =
-    is ∙ ap Some (same_some why last (stop_seen seen) (stop_seen there) e f (step_once h t u path base at k l seen there alike least (one_slash (drop at path) k l slash lacks) s z)) ∙ sym w
+    is ∙ ap Some (same_some why last (stop_seen seen) (stop_seen there) e f (step_once h t u path base at k l seen there alike least slash (one_slash (drop at path) k l slash lacks) s z)) ∙ sym w
 way_once h t u path base stop other alike at least (ends k seen why slash s e is) (more l there lacks z f g) =
-    not_both why (stop_seen seen) (stop_seen there) e f (step_once h t u path base at k l seen there alike least (one_slash (drop at path) k l slash lacks) s z)
+    not_both why (stop_seen seen) (stop_seen there) e f (step_once h t u path base at k l seen there alike least slash (one_slash (drop at path) k l slash lacks) s z)
 way_once h t u path base stop other alike at least (more k seen slash s e goes) (to_its_end lacks w) = no_slash (drop at path) k lacks slash
 way_once h t u path base stop other alike at least (more k seen slash s e goes) (ends l there last lacks z f w) =
-    not_both last (stop_seen there) (stop_seen seen) f e (sym (step_once h t u path base at k l seen there alike least (one_slash (drop at path) k l slash lacks) s z))
+    not_both last (stop_seen there) (stop_seen seen) f e (sym (step_once h t u path base at k l seen there alike least slash (one_slash (drop at path) k l slash lacks) s z))
 way_once h t u path base stop other alike at least (more k seen slash s e goes) (more l there lacks z f g) =
     way_once h t u path base stop other alike (at + (k + 1)) (omega (arith, least)) goes (subst (λ (n : ℕ). Goes h u path other (at + (n + 1))) (sym (one_slash (drop at path) k l slash lacks)) g)
 
@@ -415,7 +415,7 @@ paves_keeps h path has after at s (goes_on size mid slash one then) = then_keeps
 
 -- the paths on the way are of the folder of the outputs
 abbrev pub OfOutputOn : (output path : List ℕ) → (base : ℕ) → Type 0
-OfOutputOn output path base = (m : ℕ) → base ≤ m → IsOfOutput output (take m path)
+OfOutputOn output path base = (at size : ℕ) → base ≤ at → IsSlash (drop at path) (Some size) → IsOfOutput output (take (at + size) path)
 
 pub paves_once : {I O : Type 0} (h : Host I O) (output path : List ℕ) (base : ℕ) (one other : Bool) (v w : FileSystem) → OfOutputOn output path base → (at : ℕ) (s u : FileSystem) → base ≤ at → SameOutputs h output s.now u.now → Paves h path one v at s → Paves h path other w at u
     → Onward h output one other v w
@@ -424,21 +424,21 @@ paves_once h output path base one other v w on at s u least same (all_paved slas
 paves_once h output path base one other v w on at s u least same (all_paved slash is e) (goes_on l mid lacks has then) = no_slash (drop at path) l slash lacks
 paves_once h output path base one other v w on at s u least same (fails k slash has is) (all_paved lacks f g) = no_slash (drop at path) k lacks slash
 paves_once h output path base one other v w on at s u least same (fails k slash has is) (fails l lacks there f) =
-    let x : Onward h output false false v w = had_once h output (take (at + k) path) s u false false v w (on (at + k) (omega (arith, least))) same has
+    let x : Onward h output false false v w = had_once h output (take (at + k) path) s u false false v w (on at k least slash) same has
     (subst (λ (n : ℕ). Had h (take (at + n) path) u false w) (sym (one_slash (drop at path) k l slash lacks)) there) in
     record { has = is ∙ sym f; same = x.same }
 paves_once h output path base one other v w on at s u least same (fails k slash has is) (goes_on l mid lacks there then) =
-    let x : Onward h output false true v mid = had_once h output (take (at + k) path) s u false true v mid (on (at + k) (omega (arith, least))) same has
+    let x : Onward h output false true v mid = had_once h output (take (at + k) path) s u false true v mid (on at k least slash) same has
     (subst (λ (n : ℕ). Had h (take (at + n) path) u true mid) (sym (one_slash (drop at path) k l slash lacks)) there) in
     true_false true refl (sym x.has)
 paves_once h output path base one other v w on at s u least same (goes_on k between slash has then) (all_paved lacks f g) = no_slash (drop at path) k lacks slash
 paves_once h output path base one other v w on at s u least same (goes_on k between slash has then) (fails l lacks there f) =
-    let x : Onward h output true false between w = had_once h output (take (at + k) path) s u true false between w (on (at + k) (omega (arith, least))) same has
+    let x : Onward h output true false between w = had_once h output (take (at + k) path) s u true false between w (on at k least slash) same has
     (subst (λ (n : ℕ). Had h (take (at + n) path) u false w) (sym (one_slash (drop at path) k l slash lacks)) there) in
     true_false true refl x.has
 paves_once h output path base one other v w on at s u least same (goes_on k between slash has onwards) (goes_on l mid lacks there then) =
     let is : k ≡ l = one_slash (drop at path) k l slash lacks in
-    let x : Onward h output true true between mid = had_once h output (take (at + k) path) s u true true between mid (on (at + k) (omega (arith, least))) same has
+    let x : Onward h output true true between mid = had_once h output (take (at + k) path) s u true true between mid (on at k least slash) same has
     (subst (λ (n : ℕ). Had h (take (at + n) path) u true mid) (sym is) there) in
     paves_once h output path base one other v w on (at + (k + 1)) between mid (omega (arith, least)) x.same onwards (subst (λ (n : ℕ). Paves h path other w (at + (n + 1)) mid) (sym is) then)
 

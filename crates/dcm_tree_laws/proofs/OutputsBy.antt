@@ -24,7 +24,7 @@ use Rattle.dcm_tree_laws.specs.FileSystem.{FileSystem, Tree, Host, number_of, pl
 use Rattle.dcm_tree_laws.specs.Laws.{IsOutput, over, part_path}
 use Rattle.dcm_tree_laws.specs.Outputs.{HasOutput, HasWritten, WrittenIsThere, WrittenIsThereOfList}
 use Rattle.dcm_tree_laws.specs.Rows.{Visit, noted}
-use Rattle.dcm_tree_laws.specs.Stays.{IsOfOutput, within, Stays}
+use Rattle.dcm_tree_laws.proofs.Near.{IsNear, near, Stays}
 use Rattle.dcm_tree_laws.proofs.Both.{Both}
 use Rattle.dcm_tree_laws.proofs.Forgets.{after_any, with_past}
 use Rattle.dcm_tree_laws.proofs.Lists.{lines_do}
@@ -32,7 +32,7 @@ use Rattle.dcm_tree_laws.proofs.Noted.{walk_noted, list_noted}
 use Rattle.dcm_tree_laws.proofs.Quiet.{are_quiet, only_quiet, IsClosed, IsSame}
 use Rattle.dcm_tree_laws.proofs.RowsBy.{HasRows, visit_of, visit_rows, no_rows, same_manifest}
 use Rattle.dcm_tree_laws.proofs.Runs.{visit_name}
-use Rattle.dcm_tree_laws.proofs.Seen.{Saw, seen, walk_seen, list_seen}
+use Rattle.dcm_tree_laws.proofs.Seen.{IsUnder, IsLine, Saw, seen, walk_seen, list_seen}
 use Rattle.dcm_tree_laws.proofs.Steps.{idle, Steps, no_step}
 use Rattle.dcm_tree_laws.proofs.Walks.{VisitsDo, walks_do}
 use Rattle.dcm_tree_laws.proofs.Written.{FileGives, always_gives}
@@ -54,7 +54,7 @@ pub record Leaves {I O : Type 0} (h : Host I O) (part output : List ℕ) (before
   pub stays : Stays h part output before.now after.now
   pub none : after.written ≡ None
 
-pub leaves : {I O : Type 0} (h : Host I O) (IsWhole : ℕ → List ℕ → Type 0) (part output : List ℕ) (before after : FileSystem) → before.written ≡ None → IsOfOutput output part → Steps h IsWhole part output idle before idle after → Leaves h part output before after
+pub leaves : {I O : Type 0} (h : Host I O) (IsWhole : ℕ → List ℕ → Type 0) (part output : List ℕ) (before after : FileSystem) → before.written ≡ None → IsNear output part → Steps h IsWhole part output idle before idle after → Leaves h part output before after
 leaves h IsWhole part output before after none of_output steps =
     let x : (past : _) × Both h IsWhole part output before.now idle (with_past past after) = after_any h IsWhole part output before none of_output idle after steps in
     record { stays = x.1.keeps.stays; none = x.1.keeps.quiet }
@@ -73,8 +73,8 @@ then_stays h part output start t u still stays = record {
 -- ---- the rows so far
 
 -- of each name that was seen and is so done, a job that is done gives the output that is asked for
-abbrev pub Right : {I O : Type 0} → Host I O → Links → (Visit → ℕ → List ℕ → Type 0) → Reader I → Writer O → Manner → Tree → Type 0
-Right h links Of r w m start = (n : Named) (what : What) (mode : ℕ) (s : FileSystem) → Still h m.part start s.now → Saw h links s n what → what ≡ File mode → FileGives h (Of (visit_of n what)) r w m.task n.path mode s
+abbrev pub Right : {I O : Type 0} → Host I O → Links → (In : Named → Type 0) → (Visit → ℕ → List ℕ → Type 0) → Reader I → Writer O → Manner → Tree → Type 0
+Right h links In Of r w m start = (n : Named) (what : What) (mode : ℕ) (s : FileSystem) → Still h m.part start s.now → Saw h links In s n what → what ≡ File mode → FileGives h (Of (visit_of n what)) r w m.task n.path mode s
 
 -- by how the names of a run are done
 abbrev pub Written : {I O : Type 0} → Host I O → (Visit → ℕ → List ℕ → Type 0) → Manner → Tree → Visit → Done → Type 0
@@ -101,17 +101,17 @@ by_shared : {I O W : Type 0} (h : Host I O) (Of : Visit → ℕ → List ℕ →
 by_shared h Of m headed visits manifest now a b is rows = subst (λ (s : Shared). HasRows m (Written h Of (manner_of s.manner) now) s headed visits manifest) is rows
 
 -- what is known of a name before it is done, by what it shares with the others
-record Known {I O : Type 0} (h : Host I O) (links : Links) (Of : Visit → ℕ → List ℕ → Type 0) (r : Reader I) (w : Writer O) (start : Tree) (s : FileSystem) (shared : Shared) : Type 0 where
-  of_output : IsOfOutput (manner_of shared.manner).output (manner_of shared.manner).part
-  right : Right h links Of r w (manner_of shared.manner) start
+record Known {I O : Type 0} (h : Host I O) (links : Links) (In : Named → Type 0) (Of : Visit → ℕ → List ℕ → Type 0) (r : Reader I) (w : Writer O) (start : Tree) (s : FileSystem) (shared : Shared) : Type 0 where
+  of_output : IsNear (manner_of shared.manner).output (manner_of shared.manner).part
+  right : Right h links In Of r w (manner_of shared.manner) start
   still : Still h (manner_of shared.manner).part start s.now
 
-visits_good : {I O F W E : Type 0} (h : Host I O) (links : Links) (Of : Visit → ℕ → List ℕ → Type 0) (start : Tree) (r : Reader I) (w : Writer O) (e : Writer E) (m : Writer W) (shared : Shared) (headed : W) → IsOfOutput (manner_of shared.manner).output (manner_of shared.manner).part
-    → Right h links Of r w (manner_of shared.manner) start → VisitsDo (StaysGood h Of start m shared headed) (seen h links (noted (visits_of (over {F = F} h r w e) m)))
-visits_good {I} {O} {F} {W} {E} h links Of start r w e m shared headed of_output right from before n what result to after v good =
+visits_good : {I O F W E : Type 0} (h : Host I O) (links : Links) (In : Named → Type 0) (Of : Visit → ℕ → List ℕ → Type 0) (start : Tree) (r : Reader I) (w : Writer O) (e : Writer E) (m : Writer W) (shared : Shared) (headed : W) → IsNear (manner_of shared.manner).output (manner_of shared.manner).part
+    → Right h links In Of r w (manner_of shared.manner) start → VisitsDo (StaysGood h Of start m shared headed) (seen h links In (noted (visits_of (over {F = F} h r w e) m)))
+visits_good {I} {O} {F} {W} {E} h links In Of start r w e m shared headed of_output right from before n what result to after v good =
     let here : Shared = from.0.0.shared in
     let manner : Manner = manner_of here.manner in
-    let known : Known h links Of r w start before here = subst (Known h links Of r w start before) (sym good.same) (record { of_output = of_output; right = right; still = good.still }) in
+    let known : Known h links In Of r w start before here = subst (Known h links In Of r w start before) (sym good.same) (record { of_output = of_output; right = right; still = good.still }) in
     let left : Leaves h manner.part manner.output before after = leaves h (IsOutput h r w) manner.part manner.output before after good.none known.of_output
     (visit_name {F = F} h r w e m here _ from.0.1 before n what result _ to.0.1 after v.0.0.0) in
     record {
@@ -136,42 +136,42 @@ first h Of m headed start from before none is = record {
   rows = λ stop. no_rows m (Written h Of (manner_of start.shared.manner) before.now) start.shared headed start.manifest is;
 }
 
-pub part_of_output : (run : TreeRun) (part : List ℕ) → part ≡ part_path run → IsOfOutput run.output.now part
-part_of_output run part is = within (part_of run) is
+pub part_of_output : (run : TreeRun) (part : List ℕ) → part ≡ part_path run → IsNear run.output.now part
+part_of_output run part is = near (part_of run) is
 
-manner_of_output : (run : TreeRun) (part : List ℕ) (shared : Shared) → Shares run part shared → part ≡ part_path run → IsOfOutput (manner_of shared.manner).output (manner_of shared.manner).part
-manner_of_output run part shared shares is = subst (λ (k : Manner). IsOfOutput k.output k.part) (sym shares.manner) (part_of_output run part is)
+manner_of_output : (run : TreeRun) (part : List ℕ) (shared : Shared) → Shares run part shared → part ≡ part_path run → IsNear (manner_of shared.manner).output (manner_of shared.manner).part
+manner_of_output run part shared shares is = subst (λ (k : Manner). IsNear k.output k.part) (sym shares.manner) (part_of_output run part is)
 
 -- ---- all names
 
 -- the names in a folder were visited, these in this order, and of each so much is known
 pub folder_good : {I O F W E : Type 0} (r : Reader I) (w : Writer O) (m : Writer W) (e : Writer E) (h : Host I O) (Of : Visit → ℕ → List ℕ → Type 0) (run : TreeRun) (path : List ℕ) (begun : Begun) (opened : F) (headed : W) (from : E) (before : FileSystem) (status : ℕ)
     (left : W) (to : E) (after : FileSystem) → before.written ≡ None → begun.part.items ≡ part_path run → (v : VisitsAll (over h r w e) m run path begun opened headed from before status left to after)
-    → Right h Kept Of r w (manner_of v.start.shared.manner) before.now → (visits : List Visit) × WalksFolder (folders_do {F = F} h) (noted (visits_of (over {F = F} h r w e) m)) path begun.number opened ((v.start, from), []) before v.walked ((v.last, v.told), visits) after
+    → Right h Kept (IsUnder path) Of r w (manner_of v.start.shared.manner) before.now → (visits : List Visit) × WalksFolder (folders_do {F = F} h) (noted (visits_of (over {F = F} h r w e) m)) path begun.number opened ((v.start, from), []) before v.walked ((v.last, v.told), visits) after
     × Good h Of before.now m v.start.shared headed ((v.last, v.told), visits) after
 folder_good {I} {O} {F} {W} {E} r w m e h Of run path begun opened headed from before status left to after none part v right =
     let shared : Shared = v.start.shared in
     let walk = walk_noted (folders_do {F = F} h) (visits_of (over {F = F} h r w e) m) path begun.number opened (v.start, from) before v.walked (v.last, v.told) after v.walks [] in (
       walk.0,
       walk.1,
-      walks_do (folders_do {F = F} h) (only_quiet (folders_do {F = F} h) (are_quiet h)) (StaysGood h Of before.now m shared headed) (closed h Of before.now m shared headed) (seen h Kept (noted (visits_of (over {F = F} h r w e) m)))
-          (visits_good {F = F} h Kept Of before.now r w e m shared headed (manner_of_output run begun.part.items shared v.begins.shares part) right) path begun.number opened ((v.start, from), []) before v.walked ((v.last, v.told), walk.0) after
-          (walk_seen F h (noted (visits_of (over {F = F} h r w e) m)) path begun.number opened ((v.start, from), []) before v.walked ((v.last, v.told), walk.0) after walk.1)
+      walks_do (folders_do {F = F} h) (only_quiet (folders_do {F = F} h) (are_quiet h)) (StaysGood h Of before.now m shared headed) (closed h Of before.now m shared headed) (seen h Kept (IsUnder path) (noted (visits_of (over {F = F} h r w e) m)))
+          (visits_good {F = F} h Kept (IsUnder path) Of before.now r w e m shared headed (manner_of_output run begun.part.items shared v.begins.shares part) right) path begun.number opened ((v.start, from), []) before v.walked ((v.last, v.told), walk.0) after
+          (walk_seen F h path (noted (visits_of (over {F = F} h r w e) m)) begun.number opened ((v.start, from), []) before v.walked ((v.last, v.told), walk.0) after walk.1)
           (first h Of m headed v.start from before none (ap (λ p. p.manifest) v.begins.nothing)),
     )
 
 -- and those in a list
 pub list_good : {I O F W E : Type 0} (r : Reader I) (w : Writer O) (m : Writer W) (e : Writer E) (h : Host I O) (Of : Visit → ℕ → List ℕ → Type 0) (run : TreeRun) (list : List ℕ) (begun : Begun) (input : I) (headed : W) (from : E) (before : FileSystem) (status : ℕ)
     (left : W) (to : E) (after : FileSystem) (read : I) → before.written ≡ None → begun.part.items ≡ part_path run → (v : VisitsListed (over {F = F} h r w e) m run list begun input headed from before status left to after read)
-    → Right h Followed Of r w (manner_of v.start.shared.manner) before.now → (visits : List Visit) × WalksList (folders_do {F = F} h) (noted (visits_of (over {F = F} h r w e) m)) r.gets begun.number ((v.start, from), []) before input v.walked ((v.last, v.told), visits) after read
+    → Right h Followed IsLine Of r w (manner_of v.start.shared.manner) before.now → (visits : List Visit) × WalksList (folders_do {F = F} h) (noted (visits_of (over {F = F} h r w e) m)) r.gets begun.number ((v.start, from), []) before input v.walked ((v.last, v.told), visits) after read
     × Good h Of before.now m v.start.shared headed ((v.last, v.told), visits) after
 list_good {I} {O} {F} {W} {E} r w m e h Of run list begun input headed from before status left to after read none part v right =
     let shared : Shared = v.start.shared in
     let walk = list_noted (folders_do {F = F} h) (visits_of (over {F = F} h r w e) m) r.gets begun.number (v.start, from) before input v.walked (v.last, v.told) after read v.walks [] in (
       walk.0,
       walk.1,
-      lines_do (folders_do {F = F} h) (only_quiet (folders_do {F = F} h) (are_quiet h)) (StaysGood h Of before.now m shared headed) (closed h Of before.now m shared headed) (seen h Followed (noted (visits_of (over {F = F} h r w e) m)))
-          (visits_good {F = F} h Followed Of before.now r w e m shared headed (manner_of_output run begun.part.items shared v.begins.shares part) right) r.gets begun.number ((v.start, from), []) before input v.walked ((v.last, v.told), walk.0) after read
+      lines_do (folders_do {F = F} h) (only_quiet (folders_do {F = F} h) (are_quiet h)) (StaysGood h Of before.now m shared headed) (closed h Of before.now m shared headed) (seen h Followed IsLine (noted (visits_of (over {F = F} h r w e) m)))
+          (visits_good {F = F} h Followed IsLine Of before.now r w e m shared headed (manner_of_output run begun.part.items shared v.begins.shares part) right) r.gets begun.number ((v.start, from), []) before input v.walked ((v.last, v.told), walk.0) after read
           (list_seen F h (noted (visits_of (over {F = F} h r w e) m)) r.gets begun.number ((v.start, from), []) before input v.walked ((v.last, v.told), walk.0) after read walk.1)
           (first h Of m headed v.start from before none (ap (λ p. p.manifest) v.begins.nothing)),
     )

@@ -14,7 +14,7 @@ use Rattle.dcm_trees.specs.Tree.{VisitsFolder, VisitsList, DoesOpened, DoesFolde
 use Rattle.dcm_tree_laws.specs.FileSystem.{FileSystem, Tree, Host, folders_do, place_of}
 use Rattle.dcm_tree_laws.specs.Laws.{over, part_path}
 use Rattle.dcm_tree_laws.specs.Part.{LeavesPart, NoPartAfterRun}
-use Rattle.dcm_tree_laws.specs.Stays.{within}
+use Rattle.dcm_tree_laws.proofs.Near.{IsNear, itself, near}
 use Rattle.dcm_tree_laws.proofs.Beginnings.{numbers, climbs, is_there, numbers_folder, compares, checks_part, checks_use, begins_by}
 use Rattle.dcm_tree_laws.proofs.ClearedBy.{still_leaves, then_leaves}
 use Rattle.dcm_tree_laws.proofs.OutputsBy.{Leaves, leaves}
@@ -81,8 +81,8 @@ begins_leaves {I} {O} {F} h part output apart input is_list name continues befor
 still_none : {I O F : Type 0} (h : Host I O) (run : TreeRun) (input : List ℕ) (is_list : Bool) (before : FileSystem) (r : Result Begun Refusal) (after : FileSystem) → before.written ≡ None
     → Begins (folders_do {F = F} h) input is_list run.output.now (part_of run) run.options.continues before r after → after.written ≡ None
 still_none {I} {O} {F} h run input is_list before r after none b =
-    let x : Leaves h (part_path run) run.output.now before after = leaves h (λ mode bytes. ⊥) (part_path run) run.output.now before after none (within (part_of run) refl)
-    (begins_by {F = F} h (λ mode bytes. ⊥) (part_path run) run.output.now idle refl input is_list (part_of run) run.options.continues before r after b) in
+    let x : Leaves h (part_path run) run.output.now before after = leaves h (λ mode bytes. ⊥) (part_path run) run.output.now before after none (near (part_of run) refl)
+    (begins_by {F = F} h (λ mode bytes. ⊥) (part_path run) run.output.now (IsNear run.output.now) (itself refl) idle refl input is_list (part_of run) run.options.continues before r after b) in
     x.none
 
 visits_folder_leaves : {I O F W E : Type 0} (h : Host I O) (r : Reader I) (w : Writer O) (e : Writer E) (rows : Writer W) (run : TreeRun) (path : List ℕ) (begun : Begun) (opened : F) (manifest : W) (from : E) (before : FileSystem) (status : ℕ) (left : W) (to : E)

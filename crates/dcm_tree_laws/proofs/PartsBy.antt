@@ -13,7 +13,7 @@ use Rattle.dcm_trees.specs.Work.{Progress, VisitsName, visits_of}
 use Rattle.dcm_tree_laws.specs.FileSystem.{FileSystem, Host, folders_do}
 use Rattle.dcm_tree_laws.specs.Laws.{IsOutput, over, part_path}
 use Rattle.dcm_tree_laws.specs.Part.{LeavesPart, NoPartLeft, NoPartLeftByList}
-use Rattle.dcm_tree_laws.specs.Stays.{IsOfOutput}
+use Rattle.dcm_tree_laws.proofs.Near.{IsNear}
 use Rattle.dcm_tree_laws.proofs.ClearedBy.{still_leaves, then_leaves, name_leaves}
 use Rattle.dcm_tree_laws.proofs.Lists.{lines_do}
 use Rattle.dcm_tree_laws.proofs.OutputsBy.{Leaves, leaves, part_of_output}
@@ -23,7 +23,7 @@ use Rattle.dcm_tree_laws.proofs.Steps.{no_step}
 use Rattle.dcm_tree_laws.proofs.Walks.{VisitsDo, walks_do}
 
 pub visit_leaves : {I O F W E : Type 0} (h : Host I O) (r : Reader I) (w : Writer O) (e : Writer E) (rows : Writer W) (shared : Shared) (from : Progress W) (told_before : E) (before : FileSystem) (n : Named) (what : What) (result : Result (Unit {0}) Stopped)
-    (to : Progress W) (told : E) (after : FileSystem) → before.written ≡ None → IsOfOutput (manner_of shared.manner).output (manner_of shared.manner).part
+    (to : Progress W) (told : E) (after : FileSystem) → before.written ≡ None → IsNear (manner_of shared.manner).output (manner_of shared.manner).part
     → VisitsName (over {F = F} h r w e) rows shared from told_before before n what result to told after → LeavesPart h (manner_of shared.manner).part before after
 visit_leaves h r w e rows shared from told_before before n what result to told after none of_output (work.of_another share t told_is same is) = still_leaves h (manner_of shared.manner).part before after same
 visit_leaves {I} {O} {F} h r w e rows shared from told_before before n what result to told after none of_output (work.was_done done mid share does ends) =
@@ -50,11 +50,11 @@ closed h shared = record {
       record { same = y.same; none = y.none; leaves = then_leaves h (manner_of shared.manner).part s t u x.leaves y.leaves };
 }
 
-visits_kept : {I O F W E : Type 0} (h : Host I O) (r : Reader I) (w : Writer O) (e : Writer E) (rows : Writer W) (shared : Shared) → IsOfOutput (manner_of shared.manner).output (manner_of shared.manner).part
+visits_kept : {I O F W E : Type 0} (h : Host I O) (r : Reader I) (w : Writer O) (e : Writer E) (rows : Writer W) (shared : Shared) → IsNear (manner_of shared.manner).output (manner_of shared.manner).part
     → VisitsDo (Keeping h shared) (visits_of (over {F = F} h r w e) rows)
 visits_kept {I} {O} {F} {W} {E} h r w e rows shared of_output from before n what result to after v is none =
     let here : Shared = from.0.shared in
-    let of_here : IsOfOutput (manner_of here.manner).output (manner_of here.manner).part = subst (λ (s : Shared). IsOfOutput (manner_of s.manner).output (manner_of s.manner).part) (sym is) of_output in
+    let of_here : IsNear (manner_of here.manner).output (manner_of here.manner).part = subst (λ (s : Shared). IsNear (manner_of s.manner).output (manner_of s.manner).part) (sym is) of_output in
     let left : Leaves h (manner_of here.manner).part (manner_of here.manner).output before after = leaves h (IsOutput h r w) (manner_of here.manner).part (manner_of here.manner).output before after none of_here
     (visit_name {F = F} h r w e rows here _ from.1 before n what result _ to.1 after v.0) in
     record {
@@ -69,7 +69,7 @@ at_path_of h before after part other is leaves = subst (λ (p : List ℕ). Leave
 pub no_part_left : {I O F W E : Type 0} (r : Reader I) (w : Writer O) (rows : Writer W) (e : Writer E) → NoPartLeft F r w rows e
 no_part_left {I} {O} {F} {W} {E} r w rows e h run path begun opened headed from before status left to after none part v =
     let shared : Shared = v.start.shared in
-    let of_output : IsOfOutput (manner_of shared.manner).output (manner_of shared.manner).part = subst (λ (k : Manner). IsOfOutput k.output k.part) (sym v.begins.shares.manner) (part_of_output run begun.part.items part) in
+    let of_output : IsNear (manner_of shared.manner).output (manner_of shared.manner).part = subst (λ (k : Manner). IsNear k.output k.part) (sym v.begins.shares.manner) (part_of_output run begun.part.items part) in
     let kept : Kept h shared (v.last, v.told) before after =
     walks_do (folders_do {F = F} h) (only_quiet (folders_do {F = F} h) (are_quiet h)) (Keeping h shared) (closed h shared) (visits_of (over {F = F} h r w e) rows)
     (visits_kept {F = F} h r w e rows shared of_output) path begun.number opened (v.start, from) before v.walked (v.last, v.told) after v.walks refl none in
@@ -78,7 +78,7 @@ no_part_left {I} {O} {F} {W} {E} r w rows e h run path begun opened headed from 
 pub no_part_left_by_list : {I O F W E : Type 0} (r : Reader I) (w : Writer O) (rows : Writer W) (e : Writer E) → NoPartLeftByList F r w rows e
 no_part_left_by_list {I} {O} {F} {W} {E} r w rows e h run list begun input headed from before status left to after read none part v =
     let shared : Shared = v.start.shared in
-    let of_output : IsOfOutput (manner_of shared.manner).output (manner_of shared.manner).part = subst (λ (k : Manner). IsOfOutput k.output k.part) (sym v.begins.shares.manner) (part_of_output run begun.part.items part) in
+    let of_output : IsNear (manner_of shared.manner).output (manner_of shared.manner).part = subst (λ (k : Manner). IsNear k.output k.part) (sym v.begins.shares.manner) (part_of_output run begun.part.items part) in
     let kept : Kept h shared (v.last, v.told) before after =
     lines_do (folders_do {F = F} h) (only_quiet (folders_do {F = F} h) (are_quiet h)) (Keeping h shared) (closed h shared) (visits_of (over {F = F} h r w e) rows)
     (visits_kept {F = F} h r w e rows shared of_output) r.gets begun.number (v.start, from) before input v.walked (v.last, v.told) after read v.walks refl none in

@@ -202,18 +202,18 @@ lands_once h output part path base one other s u n k v w x has same (was_there p
 lands_once h output part path base one other s u n k v w x has same (was_there p a t some stand is at) (linked b fits m e) =
     absurd (some (none_both u.now s.now (at_path h u.now path) (at_path h s.now path) (alike_back s.now u.now (at_path h s.now path) (at_path h u.now path) (same path x.path_of)) m.nothing))
 lands_once h output part path base one other s u n k v w x has same (was_there p a t some stand is at) (was_there q b fits others there e f) =
-    let place_is : p ≡ q = stands_once h s.now u.now path base p q (λ m least. same _ (x.way_of m least)) (same path x.path_of) stand there in
+    let place_is : p ≡ q = stands_once h s.now u.now path base p q (λ at size least lies. same _ (x.way_of at size least lies)) (same path x.path_of) stand there in
     both_stay h output n k s u v w (is ∙ ap NotFree place_is ∙ sym e) same at f
 
 pub gives_once : {I O : Type 0} (h : Host I O) (output part path : List ℕ) (base : ℕ) (s u : FileSystem) (n k : Naming) (v w : FileSystem) → IsPlaced output part path base → SameOutputs h output s.now u.now → Gives h part path base s n v → Gives h part path base u k w → NamedAlike h output n k v w
 gives_once h output part path base s u n k v w x same (not_free p stand nf is at) (not_free q there lacks e f) =
-    let place_is : p ≡ q = stands_once h s.now u.now path base p q (λ m least. same _ (x.way_of m least)) (same path x.path_of) stand there in
+    let place_is : p ≡ q = stands_once h s.now u.now path base p q (λ at size least lies. same _ (x.way_of at size least lies)) (same path x.path_of) stand there in
     both_stay h output n k s u v w (is ∙ ap NotFree place_is ∙ sym e) same at f
 gives_once h output part path base s u n k v w x same (not_free p stand nf is at) (was_free q has mid there its made lands) =
-    let place_is : p ≡ q = stands_once h s.now u.now path base p q (λ m least. same _ (x.way_of m least)) (same path x.path_of) stand there in
+    let place_is : p ≡ q = stands_once h s.now u.now path base p q (λ at size least lies. same _ (x.way_of at size least lies)) (same path x.path_of) stand there in
     true_false (is_free p) (ap is_free place_is ∙ its) nf
 gives_once h output part path base s u n k v w x same (was_free p has mid stand nf made lands) (not_free q there lacks e f) =
-    let place_is : p ≡ q = stands_once h s.now u.now path base p q (λ m least. same _ (x.way_of m least)) (same path x.path_of) stand there in
+    let place_is : p ≡ q = stands_once h s.now u.now path base p q (λ at size least lies. same _ (x.way_of at size least lies)) (same path x.path_of) stand there in
     true_false (is_free p) nf (ap is_free place_is ∙ lacks)
 gives_once h output part path base s u n k v w x same (was_free p one mid stand nf made lands) (was_free q other between there its others ends) =
     let way : Onward h output one other mid between = paves_once h output path base one other mid between x.way_of base s u (omega arith) same made others in

@@ -30,7 +30,7 @@ use Rattle.dcm_tree_laws.proofs.Held.{GivesAll, held_gives, Left, reads_left}
 use Rattle.dcm_tree_laws.proofs.Jobs.{finds_job}
 use Rattle.dcm_tree_laws.proofs.Looking.{same_ok}
 use Rattle.dcm_tree_laws.proofs.OutputsBy.{Still, Right, folder_good, list_good}
-use Rattle.dcm_tree_laws.proofs.Seen.{Saw}
+use Rattle.dcm_tree_laws.proofs.Seen.{IsUnder, IsLine, Saw, SawFile}
 use Rattle.dcm_tree_laws.proofs.RowsBy.{HasRows, same_manifest}
 
 -- ---- what an input holds
@@ -89,18 +89,18 @@ held_since h part path start s still read at kind apart input opened o =
     opens_holds h path s input opened o read (still.there (h.leads Followed path) read apart at) kind ∙ still.bytes (h.leads Followed path) read apart at
 
 -- and its mode is that of the file that was there at the start
-mode_since : {I O : Type 0} (h : Host I O) (links : Links) (part : List ℕ) (n : Named) (start : Tree) (s : FileSystem) (what : What) (mode : ℕ) → Still h part start s.now → Saw h links s n what → what ≡ File mode → (read : Found)
+mode_since : {I O : Type 0} (h : Host I O) (links : Links) (In : Named → Type 0) (part : List ℕ) (n : Named) (start : Tree) (s : FileSystem) (what : What) (mode : ℕ) → Still h part start s.now → Saw h links In s n what → what ≡ File mode → (read : Found)
     → start.at (h.leads links n.path) ≡ Some read → h.leads links n.path ≢ place_of h part → h.masked mode ≡ h.masked read.mode
-mode_since h links part n start s what mode still saw is read at apart =
-    let x : (f : Found) × (s.now.at (h.leads links n.path) ≡ Some f) × (f.mode ≡ mode) = saw mode is in
-    ap h.masked (sym x.2 ∙ ap (λ (f : Found). f.mode) (same_some (s.now.at (h.leads links n.path)) x.0 read x.1 (still.there (h.leads links n.path) read apart at)))
+mode_since h links In part n start s what mode still saw is read at apart =
+    let x : SawFile h links In s n mode = saw mode is in
+    ap h.masked (sym x.mode_is ∙ ap (λ (f : Found). f.mode) (same_some (s.now.at (h.leads links n.path)) x.file read x.is (still.there (h.leads links n.path) read apart at)))
 
-single_right : {I O : Type 0} (h : Host I O) (r : Reader I) (w : Writer O) → GivesAll h r w → (links : Links) (m : Manner) (start : Tree) → Right h links (IsSingle h links m.part m.task start) r w m start
-single_right h r w all links m start = λ n what mode s still saw is job mid f input opened o left made written ending new finished done. record {
+single_right : {I O : Type 0} (h : Host I O) (r : Reader I) (w : Writer O) → GivesAll h r w → (links : Links) (In : Named → Type 0) (m : Manner) (start : Tree) → Right h links In (IsSingle h links m.part m.task start) r w m start
+single_right h r w all links In m start = λ n what mode s still saw is job mid f input opened o left made written ending new finished done. record {
   found = mode;
   of_file = is;
   mode_is = refl;
-  mode_of = λ read at apart. mode_since h links m.part n start s what mode still saw is read at apart;
+  mode_of = λ read at apart. mode_since h links In m.part n start s what mode still saw is read at apart;
   answered = λ read at kind apart. answered h r w all m.task n.path s mid job input opened left made written ending f o new finished done (start.bytes (number_of read))
       (held_since h m.part n.path start s still read at kind apart);
 }
@@ -110,7 +110,7 @@ single_right h r w all links m start = λ n what mode s still saw is job mid f i
 pub single_runs : {I O F W E : Type 0} (r : Reader I) (w : Writer O) (m : Writer W) (e : Writer E) → SingleRuns F r w m e
 single_runs {I} {O} {F} {W} {E} r w m e h run path begun opened headed from before status left to after tells none part v stop =
     let manner : Manner = manner_of v.start.shared.manner in
-    let right : Right h Kept (IsSingle h Kept manner.part manner.task before.now) (as_held h r) w manner before.now = single_right h (as_held h r) w (held_gives h r w tells) Kept manner before.now in
+    let right : Right h Kept (IsUnder path) (IsSingle h Kept manner.part manner.task before.now) (as_held h r) w manner before.now = single_right h (as_held h r) w (held_gives h r w tells) Kept (IsUnder path) manner before.now in
     let x = folder_good {F = F} (as_held h r) w m e h (IsSingle h Kept manner.part manner.task before.now) run path begun opened headed from before status left to after none part v right in
     let rows : HasRows m (HasSingle h Kept begun.part.items run.output.now (task_of run.task) before.now after.now) v.start.shared headed x.0 v.last.manifest =
     subst (λ (k : Manner). HasRows m (HasSingle h Kept k.part k.output k.task before.now after.now) v.start.shared headed x.0 v.last.manifest) v.begins.shares.manner (x.2.rows stop) in
@@ -125,7 +125,7 @@ single_runs {I} {O} {F} {W} {E} r w m e h run path begun opened headed from befo
 pub single_runs_of_list : {I O F W E : Type 0} (r : Reader I) (w : Writer O) (m : Writer W) (e : Writer E) → SingleRunsOfList F r w m e
 single_runs_of_list {I} {O} {F} {W} {E} r w m e h run list begun input headed from before status left to after read tells none part v stop =
     let manner : Manner = manner_of v.start.shared.manner in
-    let right : Right h Followed (IsSingle h Followed manner.part manner.task before.now) (as_held h r) w manner before.now = single_right h (as_held h r) w (held_gives h r w tells) Followed manner before.now in
+    let right : Right h Followed IsLine (IsSingle h Followed manner.part manner.task before.now) (as_held h r) w manner before.now = single_right h (as_held h r) w (held_gives h r w tells) Followed IsLine manner before.now in
     let x = list_good {F = F} (as_held h r) w m e h (IsSingle h Followed manner.part manner.task before.now) run list begun input headed from before status left to after read none part v right in
     let rows : HasRows m (HasSingle h Followed begun.part.items run.output.now (task_of run.task) before.now after.now) v.start.shared headed x.0 v.last.manifest =
     subst (λ (k : Manner). HasRows m (HasSingle h Followed k.part k.output k.task before.now after.now) v.start.shared headed x.0 v.last.manifest) v.begins.shares.manner (x.2.rows stop) in

@@ -23,7 +23,7 @@ use Rattle.dcm_tree_laws.specs.Laws.{IsOutput, over}
 use Rattle.dcm_tree_laws.specs.Outputs.{HasOutput}
 use Rattle.dcm_tree_laws.specs.Rows.{Visit}
 use Rattle.dcm_tree_laws.specs.Single.{IsAnswered}
-use Rattle.dcm_tree_laws.specs.Stays.{IsOfOutput, within}
+use Rattle.dcm_tree_laws.proofs.Near.{IsNear, near}
 use Rattle.dcm_tree_laws.specs.Together.{IsNoPart, IsFree, IsAside, HasBytes, HasOwnPlace, GoesBeside, no_file, same_output, other_output, IsNameOf}
 use Rattle.dcm_tree_laws.proofs.Fates.{Fated, fated, end_written, Frees}
 use Rattle.dcm_tree_laws.proofs.Files.{does_name}
@@ -141,8 +141,8 @@ same_mode : (a b : ℕ) → File a ≡ File b → a ≡ b
 same_mode a b is = cc
 
 module _ {I O : Type 0} (h : Host I O) (r : Reader I) (w : Writer O) (k : Manner) (number : ℕ) (part_is : k.part ≡ below k.output (part_name number)) where
-  pub of_output : IsOfOutput k.output k.part
-  of_output = within (part_name number) part_is
+  pub of_output : IsNear k.output k.part
+  of_output = near (part_name number) part_is
 
   pub idle_at : (s : FileSystem) → s.written ≡ None → IsIdle h (IsOutput h (as_whole h r) w) k.part k.output idle s s
   idle_at s none = record { none = none; of_output = of_output; steps = no_step refl refl }

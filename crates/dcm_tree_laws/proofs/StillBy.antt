@@ -24,7 +24,7 @@ use Rattle.dcm_tree_laws.specs.Again.{IsAt, IsThere, sure, over_sure, left_there
 use Rattle.dcm_tree_laws.specs.FileSystem.{FileSystem, Tree, Host, place_of, at_path, may_do, folders_do}
 use Rattle.dcm_tree_laws.specs.Laws.{IsOutput, part_path}
 use Rattle.dcm_tree_laws.specs.Rows.{Visit, noted}
-use Rattle.dcm_tree_laws.specs.Stays.{IsOfOutput}
+use Rattle.dcm_tree_laws.proofs.Near.{IsNear}
 use Rattle.dcm_tree_laws.proofs.Given.{none_some}
 use Rattle.dcm_tree_laws.proofs.Left.{sure_quiet, there_is_left}
 use Rattle.dcm_tree_laws.proofs.Lists.{lines_do}
@@ -103,7 +103,7 @@ visit_same {I} {O} {F} h r w e m shared from told_before before n what result to
 
 -- how they are done
 record Goes (k : Manner) : Type 0 where
-  of_output : IsOfOutput k.output k.part
+  of_output : IsNear k.output k.part
   goes : k.continues ≡ true
   keeps : k.keeps_names ≡ true
 

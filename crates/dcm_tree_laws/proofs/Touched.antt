@@ -32,12 +32,11 @@ use Rattle.dcm_tree_laws.proofs.Files.{path_is}
 use Rattle.dcm_tree_laws.proofs.Filling.{opens_file, part_is_made, part_is_new, part_is_not_made, is_filled_as, is_output}
 use Rattle.dcm_tree_laws.proofs.Given.{is_named, same_found, is_file}
 use Rattle.dcm_tree_laws.proofs.Jobs.{finds_job}
-use Rattle.dcm_tree_laws.proofs.Left.{way_cut}
 use Rattle.dcm_tree_laws.proofs.Looking.{finds, finds_folder, same_ok}
 use Rattle.dcm_tree_laws.proofs.Making.{makes_way, beyond}
 use Rattle.dcm_tree_laws.proofs.Quiet.{are_quiet}
 use Rattle.dcm_tree_laws.proofs.Steps.{idle, writing, whole, quiet}
-use Rattle.dcm_tree_laws.proofs.Ways.{on_its_way, within_output}
+use Rattle.dcm_tree_laws.proofs.Ways.{WayFolder, way_folder}
 use Rattle.dcm_tree_laws.proofs.WholePart.{IsReady, Ready, ready, then_steps}
 use Rattle.dcm_tree_laws.proofs.Written.{IsIdle, more, is_ready}
 
@@ -138,25 +137,6 @@ pub weaker : {I O : Type 0} (h : Host I O) (part output relative : List ℕ) (A 
 weaker h part output relative A B t u so touches = λ place. by_place h part output relative A B t u so place (touches place)
 
 -- ---- the folders on the way
-
--- a folder on the way to an output, up to a slash of its path
-pub record WayFolder (output relative folder_path : List ℕ) : Type 0 where
-  pub folder : List ℕ
-  pub behind : List ℕ
-  pub cut : relative ≡ below folder behind
-  pub is : folder_path ≡ below output folder
-
-pub way_folder : (output relative path : List ℕ) → path ≡ below output relative → (at size : ℕ) → length output + 1 ≤ at → IsSlash (drop at path) (Some size) → WayFolder output relative (take (at + size) path)
-way_folder output relative path is at size least slash =
-    let rest : List ℕ = drop (at + size + 1) path in
-    let folder : List ℕ = take (at + size - (length output + 1)) relative in
-    let taken : take (at + size) path ≡ below output folder = ap (take (at + size)) is ∙ within_output output relative (at + size) (at + size - (length output + 1)) (omega (arith, least, length-append output (codes "/"))) in
-    record {
-      folder = folder;
-      behind = rest;
-      cut = way_cut output relative folder rest (sym is ∙ on_its_way path at size slash ∙ ap (λ (p : List ℕ). below p rest) taken);
-      is = taken;
-    }
 
 module _ {I O F : Type 0} (h : Host I O) (part output relative : List ℕ) (IsNamed : Type 0) where
   has_folder : (path : List ℕ) → WayFolder output relative path → (before : FileSystem) (r : Result (Unit {0}) NotMade) (after : FileSystem) → HasFolder (folders_do {F = F} h) path before r after → Touches h part output relative IsNamed before.now after.now

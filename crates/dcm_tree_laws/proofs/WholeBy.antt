@@ -7,7 +7,7 @@ use Rattle.dcm_tree_laws.specs.FileSystem.{FileSystem, Tree, Number, Host, numbe
 use Rattle.dcm_tree_laws.specs.FileSystem.{MakesFile, TakesPieces, no_piece, and_piece, Closes, ClosesOutput, MovesWhat, a_file, same_file, a_folder, Removes}
 use Rattle.dcm_tree_laws.specs.Stays.{OfEach}
 use Rattle.dcm_tree_laws.specs.Whole.{IsWholeAt, nothing, was_there, a_folder as is_folder, an_output, NoneHalf}
-use Rattle.dcm_tree_laws.proofs.Steps.{Phase, idle, writing, whole, is_writing, Step, folder, part_made, filled, not_filled, named, moved, removed, left, not_removed}
+use Rattle.dcm_tree_laws.proofs.Steps.{Phase, idle, writing, whole, is_writing, StepIn, folder, part_made, filled, not_filled, named, moved, removed, left, not_removed}
 
 -- ---- one place
 
@@ -248,33 +248,33 @@ removes h IsWhole part start at before after r holds = record {
 as_phase : {I O : Type 0} (h : Host I O) (IsWhole : ℕ → List ℕ → Type 0) (part : List ℕ) (start : Tree) (at then : Phase) (s : FileSystem) → then ≡ at → Holds h IsWhole part start at s → Holds h IsWhole part start then s
 as_phase h IsWhole part start at then s is holds = subst (λ (k : Phase). Holds h IsWhole part start k s) (sym is) holds
 
-pub each_holds : {I O : Type 0} (h : Host I O) (IsWhole : ℕ → List ℕ → Type 0) (part output : List ℕ) (start : Tree) (at : Phase) (before : FileSystem) (then : Phase) (after : FileSystem)
-    → Step h IsWhole part output at before then after → Holds h IsWhole part start at before → Holds h IsWhole part start then after
-each_holds h IsWhole part output start at before then after (folder path rest to m same) holds =
+pub each_holds : {I O : Type 0} (h : Host I O) (IsWhole : ℕ → List ℕ → Type 0) (part : List ℕ) (Of : List ℕ → Type 0) (start : Tree) (at : Phase) (before : FileSystem) (then : Phase) (after : FileSystem)
+    → StepIn h IsWhole part Of at before then after → Holds h IsWhole part start at before → Holds h IsWhole part start then after
+each_holds h IsWhole part Of start at before then after (folder path rest to m same) holds =
     as_phase h IsWhole part start at then after same
     (gives h IsWhole part start at before after (place_of h path) (Some m.made) rest m.nothing m.puts m.bytes m.notes (is_folder m.made m.puts.there m.kind) holds)
-each_holds h IsWhole part output start at before then after (part_made mode rest m is) holds =
+each_holds h IsWhole part Of start at before then after (part_made mode rest m is) holds =
     as_phase h IsWhole part start (writing (h.masked mode)) then after is (makes h IsWhole part start at before after mode m holds)
-each_holds h IsWhole part output start at before then after (filled mode bytes was c done is) holds =
+each_holds h IsWhole part Of start at before then after (filled mode bytes was c done is) holds =
     let all : (n : Number) × (HoldsOpen h IsWhole part start mode n after × (after.now.bytes n ≡ bytes)) =
     closes h IsWhole part start mode before.written bytes before after refl c (as_phase h IsWhole part start at (writing mode) before (sym was) holds) in
     as_phase h IsWhole part start (whole bytes) then after is (to_whole h IsWhole part start mode all.0 bytes after done all.1.1 all.1.0)
-each_holds h IsWhole part output start at before then after (not_filled mode bytes was c is) holds =
+each_holds h IsWhole part Of start at before then after (not_filled mode bytes was c is) holds =
     let all : (n : Number) × (HoldsOpen h IsWhole part start mode n after × (after.now.bytes n ≡ bytes)) =
     closes h IsWhole part start mode before.written bytes before after refl c (as_phase h IsWhole part start at (writing mode) before (sym was) holds) in
     as_phase h IsWhole part start idle then after is (to_idle h IsWhole part start mode all.0 after all.1.0)
-each_holds h IsWhole part output start at before then after (named bytes path was to l same) holds =
+each_holds h IsWhole part Of start at before then after (named bytes path was to l same) holds =
     let at_whole : Holds h IsWhole part start (whole bytes) before = as_phase h IsWhole part start at (whole bytes) before (sym was) holds in
     as_phase h IsWhole part start (whole bytes) then after (same ∙ was)
     (gives h IsWhole part start (whole bytes) before after (place_of h path) (Some l.linked) refl l.nothing l.puts l.bytes l.notes
     (linked_is h IsWhole part path start bytes before after at_whole.part_at l.linked l.was l.puts.there l.bytes) at_whole)
-each_holds h IsWhole part output start at before then after (moved bytes path was to none m is) holds =
+each_holds h IsWhole part Of start at before then after (moved bytes path was to none m is) holds =
     as_phase h IsWhole part start idle then after is (moves h IsWhole part path start bytes before after m (as_phase h IsWhole part start at (whole bytes) before (sym was) holds))
-each_holds h IsWhole part output start at before then after (removed rest r is) holds =
+each_holds h IsWhole part Of start at before then after (removed rest r is) holds =
     as_phase h IsWhole part start idle then after is (removes h IsWhole part start at before after r holds)
-each_holds h IsWhole part output start at before then after (left rest same is) holds =
+each_holds h IsWhole part Of start at before then after (left rest same is) holds =
     as_phase h IsWhole part start idle then after is (rest_state h IsWhole part start at before after same holds)
-each_holds h IsWhole part output start at before then after (not_removed rest same is) holds =
+each_holds h IsWhole part Of start at before then after (not_removed rest same is) holds =
     as_phase h IsWhole part start idle then after is (subst (Holds h IsWhole part start idle) (sym same) (record { none_half = holds.none_half; earlier = holds.earlier; part_at = tt }))
 
 -- the part is no folder where it is whole

@@ -3,7 +3,7 @@ use Rattle.std.proofs.Common.{◌≡◌, refl, inl, ℕ, List, [], Some, None}
 use Rattle.dcm_files.specs.declared.folders.Found.{Found}
 use Rattle.dcm_files.specs.declared.folders.FoundKind.TheVariants.{File}
 use Rattle.dcm_tree_laws.specs.FileSystem.{FileSystem, Host, Tree, number_of, at_path}
-use Rattle.dcm_tree_laws.specs.Stays.{IsOfOutput, Stays}
+use Rattle.dcm_tree_laws.proofs.Near.{IsNear, Stays}
 use Rattle.dcm_tree_laws.proofs.Both.{Both}
 use Rattle.dcm_tree_laws.proofs.Forgets.{after_any, with_past, steps_past}
 use Rattle.dcm_tree_laws.proofs.StaysBy.{Keeps, each_keeps}
@@ -13,7 +13,7 @@ use Rattle.dcm_tree_laws.proofs.WholeBy.{Holds, each_holds, no_folder}
 -- a whole part, on the way from a state in which nothing was written
 pub record IsReady {I O : Type 0} (h : Host I O) (IsWhole : ℕ → List ℕ → Type 0) (part output bytes : List ℕ) (start s : FileSystem) : Type 0 where
   pub none : start.written ≡ None
-  pub of_output : IsOfOutput output part
+  pub of_output : IsNear output part
   pub steps : Steps h IsWhole part output idle start (whole bytes) s
 
 -- its file
@@ -41,14 +41,14 @@ stays_since {I} {O} {h} {IsWhole} {part} {output} {bytes} {start} {s} r =
 
 -- since a state in which the part was whole, too
 record Since {I O : Type 0} (h : Host I O) (IsWhole : ℕ → List ℕ → Type 0) (part output : List ℕ) (start whole_at : Tree) (at : Phase) (s : FileSystem) : Type 0 where
-  keeps : Keeps h part output whole_at at s
+  keeps : Keeps h part (IsNear output) whole_at at s
   holds : Holds h IsWhole part start at s
 
-each_since : {I O : Type 0} (h : Host I O) (IsWhole : ℕ → List ℕ → Type 0) (part output : List ℕ) (start whole_at : Tree) → IsOfOutput output part → (at : Phase) (before : FileSystem) (then : Phase) (after : FileSystem)
+each_since : {I O : Type 0} (h : Host I O) (IsWhole : ℕ → List ℕ → Type 0) (part output : List ℕ) (start whole_at : Tree) → IsNear output part → (at : Phase) (before : FileSystem) (then : Phase) (after : FileSystem)
     → Step h IsWhole part output at before then after → Since h IsWhole part output start whole_at at before → Since h IsWhole part output start whole_at then after
 each_since h IsWhole part output start whole_at of_output at before then after step x = record {
-  keeps = each_keeps h IsWhole part output whole_at of_output at before then after (λ rest other. no_folder h IsWhole part start at before x.holds rest other) step x.keeps;
-  holds = each_holds h IsWhole part output start at before then after step x.holds;
+  keeps = each_keeps h IsWhole part (IsNear output) whole_at of_output at before then after (λ rest other. no_folder h IsWhole part start at before x.holds rest other) step x.keeps;
+  holds = each_holds h IsWhole part (IsNear output) start at before then after step x.holds;
 }
 
 pub stays_then : {I O : Type 0} {h : Host I O} {IsWhole : ℕ → List ℕ → Type 0} {part output bytes : List ℕ} {start s : FileSystem} (then : Phase) (after : FileSystem) → IsReady h IsWhole part output bytes start s → Steps h IsWhole part output (whole bytes) s then after

@@ -31,9 +31,11 @@ use Rattle.dcm_trees.specs.Part as part_spec
 use Rattle.dcm_trees.specs.Part.{NamesOutput, FillsAndNames, TellsNoPart}
 use Rattle.dcm_tree_laws.specs.FileSystem.{FileSystem, Host, may_do, folders_do}
 use Rattle.dcm_tree_laws.specs.Laws.{IsOutput, over}
-use Rattle.dcm_tree_laws.specs.Stays.{IsOfOutput}
+use Rattle.dcm_tree_laws.proofs.Near.{IsNear}
 use Rattle.dcm_tree_laws.proofs.Files.{path_is}
-use Rattle.dcm_tree_laws.proofs.Filling.{opens_file, part_is_made, part_is_new, is_filled_as, is_output}
+pub use Rattle.dcm_tree_laws.proofs.Filling.{always_gives}
+use Rattle.dcm_tree_laws.proofs.Filling.{opens_file, part_is_made, part_is_new, is_filled_as}
+pub use Rattle.dcm_tree_laws.proofs.Gives.{GivesOutput, OpenGives, FileGives}
 use Rattle.dcm_tree_laws.proofs.Given.{IsReady, NewOutput, name_given, cleared_new, written_named}
 use Rattle.dcm_tree_laws.proofs.Jobs.{finds_job}
 use Rattle.dcm_tree_laws.proofs.Looking.{finds, same_ok}
@@ -77,31 +79,12 @@ what_not whats.Unlisted = refl
 what_not whats.NoFile = refl
 what_not (whats.File mode) = refl
 
--- ---- what is asked of an output
-
--- a job that is done of an input gives it
-abbrev pub GivesOutput : {I O : Type 0} → Host I O → (ℕ → List ℕ → Type 0) → Reader I → Writer O → Job → I → (mode : ℕ) → Type 0
-GivesOutput {I} {O} h IsWhole r w job input mode =
-    (left : I) (made written : O) (ending : Ending) → h.took made ≡ [] → Finishes r w job input left made written ending → is_written (ending_fate ending) ≡ true → IsWhole (h.masked mode) (h.took written)
-
--- of the file at a path, when it is opened
-abbrev pub OpenGives : {I O : Type 0} → Host I O → (ℕ → List ℕ → Type 0) → Reader I → Writer O → Job → (path : List ℕ) → (mode : ℕ) → FileSystem → Type 0
-OpenGives {I} h IsWhole r w job path mode s = (input : I) (opened : FileSystem) → OpensFile (may_do h) path s (Some input) opened → GivesOutput h IsWhole r w job input mode
-
--- and the job that is found of it
-abbrev pub FileGives : {I O : Type 0} → Host I O → (ℕ → List ℕ → Type 0) → Reader I → Writer O → Task → (path : List ℕ) → (mode : ℕ) → FileSystem → Type 0
-FileGives h IsWhole r w task path mode s = (job : Job) (mid : FileSystem) → FindsJob (may_do h) r task path s (Ok job) mid → OpenGives h IsWhole r w job path mode mid
-
--- all bytes that an output took of a job that was done are given by it
-pub always_gives : {I O : Type 0} (h : Host I O) (r : Reader I) (w : Writer O) (task : Task) (path : List ℕ) (mode : ℕ) (s : FileSystem) → FileGives h (IsOutput h r w) r w task path mode s
-always_gives h r w task path mode s = λ job mid f input opened opens left made written ending new finished done. is_output h r w mode job input left made written ending new finished done
-
 -- ---- a file whose output has its name
 
 -- a state in which nothing is written, from which a run goes on
 pub record IsIdle {I O : Type 0} (h : Host I O) (IsWhole : ℕ → List ℕ → Type 0) (part output : List ℕ) (at : Phase) (start s : FileSystem) : Type 0 where
   pub none : start.written ≡ None
-  pub of_output : IsOfOutput output part
+  pub of_output : IsNear output part
   pub steps : Steps h IsWhole part output idle start at s
 
 pub more : {I O : Type 0} {h : Host I O} {IsWhole : ℕ → List ℕ → Type 0} {part output : List ℕ} {at then : Phase} {start s t : FileSystem} → IsIdle h IsWhole part output at start s → Steps h IsWhole part output at s then t → IsIdle h IsWhole part output then start t

@@ -55,10 +55,18 @@ pub record IsSettled {I O : Type 0} (h : Host I O) (part output : List ℕ) (v :
 abbrev pub FileIsSettled : {I O : Type 0} → Host I O → (part output : List ℕ) → Visit → Done → Type 0
 FileIsSettled h part output v done = FileIs (IsSettled h part output v) v done
 
+-- or another file was at the path of the instance in it, which is another place than the part
+pub data IsSettledAs {I O : Type 0} (h : Host I O) (part output : List ℕ) (v : Visit) (done : Done) : Type 0 where
+  is_so : IsSettled h part output v done → IsSettledAs h part output v done
+  has_other : done.fate ≡ fates.Occupied → IsElsewhere h part output v done → IsSettledAs h part output v done
+
+abbrev pub FileIsSettledAs : {I O : Type 0} → Host I O → (part output : List ℕ) → Visit → Done → Type 0
+FileIsSettledAs h part output v done = FileIs (IsSettledAs h part output v) v done
+
 -- what the row of a name says stands, where its file was there at the start
 abbrev pub WasCopied : {I O : Type 0} → Host I O → Task → (part output : List ℕ) → (start now : Tree) → Visit → Done
     → Type 0
-WasCopied h task part output start now v done = FileWasThere h start v → FileIsSettled h part output v done
+WasCopied h task part output start now v done = FileWasThere h start v → FileIsSettledAs h part output v done
     → Stands h task output now v done
 
 -- the names in a folder were visited, these in this order; the manifest has their rows, and what these say stands for
@@ -133,9 +141,10 @@ rows_again (of_another earlier v rows none more) = rows_again rows
 rows_again (and_row earlier rest v done rows share so more is) =
     rows_again rows ++ row v.named.name (output_of v.named (again done)) (word (again done).fate)
 
--- each file of a first run was there at its start, and was written, or met its output, or ended without one for what
--- it holds; and a second run, of the same task and share and into the same folder, visits the same names: all is at its
--- end as it was, and its rows are those of the first, with `there` for `written` and `unplaced`
+-- each file of a first run was there at its start, and was written, or met its output or another file at the path of
+-- that, or ended without one for what it holds; and a second run, of the same task and share and into the same folder,
+-- visits the same names: all is at its end as it was, and its rows are those of the first, with `there` for `written`
+-- and `unplaced`
 abbrev pub SecondIsAsItWas : {I O W E : Type 0} → (F : Type 0) → Reader I → Writer O → Writer W → Writer E → Type 0
 SecondIsAsItWas {I} {O} {W} {E} F reader output m errors =
     (h : Host I O) (first second : TreeRun) (path : List ℕ) (begun rebegun : Begun) (opened reopened : F)
@@ -144,7 +153,7 @@ SecondIsAsItWas {I} {O} {W} {E} F reader output m errors =
     → second.options.part ≡ first.options.part
     → (v : VisitsAll (working h reader output errors) m first path begun opened headed from before status left to mid)
     → (x : FolderHasCopies h reader output m errors first path begun opened headed from before status left to mid v)
-    → OfRows (FileIsSettled h (part_path first) first.output.now) x.rows → OfAll (FileWasThere h before.now) x.visits
+    → OfRows (FileIsSettledAs h (part_path first) first.output.now) x.rows → OfAll (FileWasThere h before.now) x.visits
     → (y : IsAgainAsItWas h reader output m errors second path rebegun reopened reheaded refrom mid restatus releft reto
     after)
     → y.has.visits ≡ x.visits
@@ -169,7 +178,7 @@ SecondIsAsItWasOfList {I} {O} {W} {E} F reader output m errors =
     → (v : VisitsListed (working {F = F} h reader output errors) m first list begun input headed from before status left
     to mid read)
     → (x : ListHasCopies h reader output m errors first list begun input headed from before status left to mid read v)
-    → OfRows (FileIsSettled h (part_path first) first.output.now) x.rows → OfAll (FileWasThere h before.now) x.visits
+    → OfRows (FileIsSettledAs h (part_path first) first.output.now) x.rows → OfAll (FileWasThere h before.now) x.visits
     → (y : ListIsAgainAsItWas F h reader output m errors second list rebegun reinput reheaded refrom mid restatus releft
     reto after reread)
     → y.has.visits ≡ x.visits

@@ -1,9 +1,10 @@
 -- Runs that name outputs by the instances in them, where these are there.
-use Rattle.std.specs.Prelude.{◌≡◌, ◌≢◌, ℕ, List, [], true, false, Some, None, Result, Ok, Err}
+use Rattle.std.specs.Prelude.{◌≡◌, ◌≢◌, ◌≤◌, ℕ, length, List, [], true, false, Some, None, Result, Ok, Err}
 use Rattle.std.specs.Io.KnownBytes.{append_known}
 use Rattle.std.specs.Str.{IsUtf8}
 use Rattle.arrayvec.specs.ArrayVec.{ArrayVec}
 use Rattle.dcm_base.specs.declared.fault.Stop.{Stop as FaultAt}
+use Rattle.dcm_base.specs.Reading.Reads.{INPUT_LIMIT}
 use Rattle.dcm_devices.specs.Writing.{Writer}
 use Rattle.dcm_files.specs.declared.folders.Found.{Found}
 use Rattle.dcm_files.specs.declared.folders.Links.TheVariants.{Followed}
@@ -56,6 +57,20 @@ pub record HasCopy {I O : Type 0} (h : Host I O) (task : Task) (output : List �
   pub names : FileNames made (Ok uids)
   pub there : IsThere h output (instance_name uids) t
   pub same : t.bytes (number_of there.file.found) ≡ made
+
+-- or it is not placed, since another file is at that path: one of other bytes, where what is written has no more of them
+-- than an input may have
+pub record HasOther {I O : Type 0} (h : Host I O) (task : Task) (output : List ℕ) (t : Tree) (path : List ℕ)
+    (uids : Uids) : Type 0 where
+  pub text : IsUtf8 path
+  pub input : FileAt h Followed t path
+  pub made : List ℕ
+  pub verdict : Verdict
+  pub comes : ComesTo task (t.bytes (number_of input.file)) made verdict
+  pub is_done : is_written (verdict_fate verdict) ≡ true
+  pub names : FileNames made (Ok uids)
+  pub there : IsThere h output (instance_name uids) t
+  pub other : length made ≤ INPUT_LIMIT → t.bytes (number_of there.file.found) ≢ made
 
 -- ---- one name
 
@@ -137,6 +152,13 @@ pub record HasCopyOf {I O : Type 0} (h : Host I O) (task : Task) (output : List 
   pub named : IsNamedBy uids done
   pub copy : HasCopy h task output t path uids
 
+-- another file is there
+pub record HasOtherOf {I O : Type 0} (h : Host I O) (task : Task) (output : List ℕ) (t : Tree) (path : List ℕ)
+    (done : Done) : Type 0 where
+  pub uids : Uids
+  pub named : IsNamedBy uids done
+  pub met : HasOther h task output t path uids
+
 -- the file of a name is there, at a path that is text
 pub record HasFile {I O : Type 0} (h : Host I O) (t : Tree) (v : Visit) : Type 0 where
   pub text : IsUtf8 v.named.path
@@ -148,12 +170,14 @@ fate_again fates.Written = fates.There
 fate_again fates.Unplaced = fates.There
 fate_again fate = fate
 
--- what a row says of a name still stands: its output is there, or it ends without one; or it is no file, or the index
--- of a medium
+-- what a row says of a name still stands: its output is there, or another file is; or it ends without one; or it is no
+-- file, or the index of a medium
 pub data Stands {I O : Type 0} (h : Host I O) (task : Task) (output : List ℕ) (t : Tree) (v : Visit) (done : Done)
     : Type 0 where
   of_copy : (mode : ℕ) → v.what ≡ File mode → is_media_index v.named.relative ≡ false
       → fate_again done.fate ≡ fates.There → HasCopyOf h task output t v.named.path done → Stands h task output t v done
+  of_other : (mode : ℕ) → v.what ≡ File mode → is_media_index v.named.relative ≡ false → done.fate ≡ fates.Occupied
+      → HasOtherOf h task output t v.named.path done → Stands h task output t v done
   unnamed : (mode : ℕ) → v.what ≡ File mode → is_media_index v.named.relative ≡ false → (f : HasFile h t v)
       → EndsUnnamed task (t.bytes (number_of f.file.file)) done.fate → is_written done.fate ≡ false
       → done ≡ without_name done.fate → Stands h task output t v done

@@ -15,7 +15,6 @@ use Rattle.dcm_trees.specs.Tree.{DoesTree, part_of}
 use Rattle.dcm_trees.specs.World.{World, world}
 use Rattle.dcm_tree_laws.specs.FileSystem.{FileSystem, Host, Tree, begins, may_do, folders_do}
 use Rattle.dcm_tree_laws.specs.Stays.{Stays, Always}
-use Rattle.dcm_tree_laws.specs.Whole.{NoneHalf}
 
 -- a run is over such a file system, whatever gives its inputs and takes its outputs and lines
 abbrev pub over : {I O F E : Type 0} → Host I O → Reader I → Writer O → Writer E → World FileSystem I O F E
@@ -50,14 +49,6 @@ pub record IsOutput {I O : Type 0} (h : Host I O) (reader : Reader I) (output : 
   pub done : is_written (ending_fate ending) ≡ true
   pub bytes_are : bytes ≡ h.took written
 
--- and each file that has another name than the part was there, or is a whole output
-abbrev pub NeverHalf : {I O W E : Type 0} → (F : Type 0) → Reader I → Writer O → Writer W → Writer E → Type 0
-NeverHalf {I} {O} {W} {E} F reader output rows errors =
-    (h : Host I O) (run : TreeRun) (source : Source) (start : Tree) (manifest : W) (from : E) (status : ℕ) (left : W)
-    (to : E) (after : FileSystem)
-    → DoesTree (over {F = F} h reader output errors) rows run source manifest from (begins start) status left to after
-    → Always (NoneHalf h (IsOutput h reader output) (part_path run) start) after
-
 -- ---- the same of the words of the program
 
 abbrev pub part_of_tree : WordsTree → List ℕ
@@ -71,11 +62,3 @@ OthersStayByWords {I} {O} {E} F reader output errors =
     → meant_tree words ≡ Ok t
     → ObeysTree (over {F = F} h reader output errors) words from (begins start) status to after
     → Always (Stays h (part_of_tree t) t.plan.output start) after
-
-abbrev pub NeverHalfByWords : {I O E : Type 0} → (F : Type 0) → Reader I → Writer O → Writer E → Type 0
-NeverHalfByWords {I} {O} {E} F reader output errors =
-    (h : Host I O) (words : List (List ℕ)) (t : WordsTree) (start : Tree) (from : E) (status : ℕ) (to : E)
-    (after : FileSystem)
-    → meant_tree words ≡ Ok t
-    → ObeysTree (over {F = F} h reader output errors) words from (begins start) status to after
-    → Always (NoneHalf h (IsOutput h reader output) (part_of_tree t) start) after

@@ -21,3 +21,4 @@ pub mod Told
 pub mod ToldAs
 pub mod Behind
 pub mod Kept
+pub mod Halves

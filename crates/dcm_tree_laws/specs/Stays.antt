@@ -1,13 +1,14 @@
 -- What a run over a tree leaves as it was.
-use Rattle.std.specs.Prelude.{◌≡◌, ◌≢◌, ◌⊎◌, ℕ, List, [], ◌∷◌, Some}
+use Rattle.std.specs.Prelude.{◌≡◌, ◌≢◌, ◌⊎◌, ℕ, true, List, [], ◌∷◌, Some}
 use Rattle.dcm_files.specs.declared.folders.Found.{Found}
-use Rattle.dcm_walk.specs.Names.{below}
+use Rattle.dcm_walk.specs.Names.{below, leads_below}
 use Rattle.dcm_tree_laws.specs.FileSystem.{Tree, FileSystem, Host, number_of, place_of}
 
--- the folder of the outputs, or what lies in it at any depth
+-- the folder of the outputs, or what lies in it at any depth. No part of the name in it is empty, `.` or `..`: such a
+-- path leads out of it only where a link lies on its way
 pub data IsOfOutput (output : List ℕ) (path : List ℕ) : Type 0 where
   itself : path ≡ output → IsOfOutput output path
-  within : (relative : List ℕ) → path ≡ below output relative → IsOfOutput output path
+  within : (relative : List ℕ) → leads_below relative ≡ true → path ≡ below output relative → IsOfOutput output path
 
 -- a path of it leads to a place
 pub record LeadsThere {I O : Type 0} (h : Host I O) (output place : List ℕ) : Type 0 where

@@ -11,7 +11,8 @@ ghost use Rattle.dcm_tree_laws.specs.Distinct.{OutputsAreDistinct, OutputsAreDis
 ghost use Rattle.dcm_tree_laws.specs.Flows.{NoNameFlows, SameBecomes};
 ghost use Rattle.dcm_tree_laws.specs.Kept.{AgainIsKept, AgainIsKeptOfList, KeptIsThere, KeptIsThereOfList};
 ghost use Rattle.dcm_tree_laws.specs.Kept.{SecondIsKept, SecondIsKeptOfList, StaysFree, WithoutIsLeft};
-ghost use Rattle.dcm_tree_laws.specs.Laws.{NeverHalf, NeverHalfByWords, OthersStay, OthersStayByWords};
+ghost use Rattle.dcm_tree_laws.specs.Halves.{NeverHalf, NeverHalfByWords, NeverHalfOfBytes};
+ghost use Rattle.dcm_tree_laws.specs.Laws.{OthersStay, OthersStayByWords};
 ghost use Rattle.dcm_tree_laws.specs.OneRow.{OneRow, OneRowOfList};
 ghost use Rattle.dcm_tree_laws.specs.Outputs.{WrittenIsThere, WrittenIsThereOfList};
 ghost use Rattle.dcm_tree_laws.specs.Part.{NoPartAfterRun, NoPartLeft, NoPartLeftByList};
@@ -28,16 +29,22 @@ use dcm_files::Folders;
 
 /// A run over a tree leaves what was there. Each file stays, with its bytes, its number and its mode, each folder and
 /// each link. So it is after each of its calls, also where it is cut off there, and whatever calls fail. What is new is
-/// below the folder of the outputs, or that folder. Where a path leads is not changed by others meanwhile.
+/// where a path below the folder of the outputs leads, or that folder; no part of its name below it is empty, `.` or
+/// `..`. Where a path leads is not changed by others meanwhile.
 pub fn others_stay<I: DeviceIn, O: DeviceOut, W: DeviceOut, E: DeviceOut, F>()
     ensures run { OthersStay F I.DeviceIn O.DeviceOut W.DeviceOut E.DeviceOut }
     ensures words { OthersStayByWords F I.DeviceIn O.DeviceOut E.DeviceOut }
 {}
 
 /// No output of a tree is half under its name. After each call of a run over one, whatever calls fail, each file that
-/// was not there before has all the bytes that its output took of a job that was done. The run's own part is set aside.
+/// was not there before is whole. It has all the bytes that its output took of a job that was done: the one that the
+/// run's task has for the file of a name below the folder that the run is over, or of a line of its list, done of the
+/// input that was opened at the path of that name. The mode is that of that file, less the bits that the system takes
+/// away. Where the calls of a reader give what the file holds, and an output tells all that it took, the bytes are what a
+/// single run writes of the bytes that were in the file when it was read. The run's own part is set aside.
 pub fn never_half<I: DeviceIn, O: DeviceOut, W: DeviceOut, E: DeviceOut, F>()
     ensures run { NeverHalf F I.DeviceIn O.DeviceOut W.DeviceOut E.DeviceOut }
+    ensures bytes { NeverHalfOfBytes F I.DeviceIn O.DeviceOut W.DeviceOut E.DeviceOut }
     ensures words { NeverHalfByWords F I.DeviceIn O.DeviceOut E.DeviceOut }
 {}
 
@@ -66,7 +73,8 @@ pub fn outputs_are_distinct<I: DeviceIn, O: DeviceOut, W: DeviceOut, E: DeviceOu
 {}
 
 /// A run over a tree leaves no part. So it is where no removing of a file failed, also of a run that ends before its
-/// last name. At the path of the part is what was there before, and that is nothing where a run is begun.
+/// last name. At the path of the part is what was there before, and that is nothing where a run is begun. Of a run as a
+/// whole it is said where the folder of the outputs and the part in it are at two places, as they are in any file system.
 pub fn no_part_left<I: DeviceIn, O: DeviceOut, W: DeviceOut, E: DeviceOut, F>()
     ensures run { NoPartAfterRun F I.DeviceIn O.DeviceOut W.DeviceOut E.DeviceOut }
     ensures folder { NoPartLeft F I.DeviceIn O.DeviceOut W.DeviceOut E.DeviceOut }
@@ -103,10 +111,11 @@ pub fn bytes_say_the_end()
 {}
 
 /// A run that names outputs by the instances in them does each file again. Where its output is there, with the same
-/// bytes, that is left, the row is `there`, and only what the job came to is told. What has no job, or is refused, or
-/// names no instance, ends so again. Where that is so of all names, all is at the end as it was. So it is after a first
-/// run each of whose files was written, or was there with the status 0, or ended so. The rows are those of the first
-/// run, but `there` for `written` and `unplaced`. It is said where no call fails that need not.
+/// bytes, that is left, the row is `there`, and only what the job came to is told. Where a file with other bytes is there,
+/// that is left too. What has no job, or is refused, or names no instance, ends so again. Where that is so of all names,
+/// all is at the end as it was. So it is after a first run each of whose files was written, or was there, be it with the
+/// status 0 or 4, or ended so. The rows are those of the first run, but `there` for `written` and `unplaced`. It is said
+/// where no call fails that need not.
 pub fn again_is_as_it_was<I: DeviceIn, O: DeviceOut, W: DeviceOut, E: DeviceOut, F>()
     ensures made { CopiesAreThere F I.DeviceIn O.DeviceOut W.DeviceOut E.DeviceOut }
     ensures made_by_list { CopiesAreThereOfList F I.DeviceIn O.DeviceOut W.DeviceOut E.DeviceOut }
