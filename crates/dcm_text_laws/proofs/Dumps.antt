@@ -34,13 +34,13 @@ total_utf8 : (total : Option ℕ) → IsUtf8 (of_total total)
 total_utf8 (Some n) = both (low_utf8 (codes "/") refl) (decimal_utf8 n)
 total_utf8 None = IsUtf8-nil
 
-heading_utf8 : (is_first : Bool) (number : ℕ) (total : Option ℕ) (name : List ℕ) → IsUtf8 (shown_name name) → IsUtf8 (heading is_first number total name)
+pub heading_utf8 : (is_first : Bool) (number : ℕ) (total : Option ℕ) (name : List ℕ) → IsUtf8 (shown_name name) → IsUtf8 (heading is_first number total name)
 heading_utf8 is_first number total name h =
     both (before_utf8 is_first) (both (low_utf8 (codes "# dcmdump (") refl) (both (decimal_utf8 number) (both (total_utf8 total) (both (low_utf8 (codes "): ") refl) (both h (low_utf8 (10 ∷ 10 ∷ []) refl))))))
 
 -- ---- dumps
 
-abbrev ValidText : Texts → Type 0
+abbrev pub ValidText : Texts → Type 0
 ValidText t = IsUtf8 t.text
 
 all_valid : {X : Type 0} (Comes : Place → X → Texts → Place → Type 0) → ((from : Place) (x : X) (t : Texts) (to : Place) → Comes from x t to → ValidText t)
@@ -54,7 +54,7 @@ module _ (s : MemSystem) (h : HoldsBytes s) (shown : Showing) (d : Dictionary) (
       let r : Answered (dump_decoded d mode bare) bytes text verdict = subst (λ (job : Job). Answered job bytes text verdict) is_job y in
       subst IsUtf8 (sym r.out_is) (source_utf8 d mode bare bytes r.source (bytes_of bytes o.are) r.reads)
 
-  file_valid : (from : Place) (name : List ℕ) (o : Option (List ℕ)) (t : Texts) (to : Place) → ((bytes : List ℕ) → o ≡ Some bytes → IsOpened name bytes) → FileComes shown from name o t to → ValidText t
+  pub file_valid : (from : Place) (name : List ℕ) (o : Option (List ℕ)) (t : Texts) (to : Place) → ((bytes : List ℕ) → o ≡ Some bytes → IsOpened name bytes) → FileComes shown from name o t to → ValidText t
   file_valid from name None t to f e = subst ValidText (sym e.0) IsUtf8-nil
   file_valid from name (Some bytes) t to f (text, verdict, y, is, place) =
       let o = f bytes refl in

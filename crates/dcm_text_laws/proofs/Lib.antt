@@ -8,3 +8,4 @@ pub mod Runs
 pub mod Names
 pub mod Tables
 pub mod Dumps
+pub mod Standing

@@ -43,11 +43,11 @@ use Rattle.dcm_text_laws.proofs.Names.{IsOpened, both_true, file_opened, listed_
 -- ---- rows
 
 -- each text of the rows is valid
-abbrev ValidRows : Rows → Type 0
+abbrev pub ValidRows : Rows → Type 0
 ValidRows rows = (text : List ℕ) → SpellsParts rows.parts text → IsUtf8 text
 
 -- what spells parts and others spells these and then those
-split : (ps qs : List Part) (text : List ℕ) → SpellsParts (ps ++ qs) text
+pub split : (ps qs : List Part) (text : List ℕ) → SpellsParts (ps ++ qs) text
     → (a b : List ℕ) × (text ≡ a ++ b) × SpellsParts ps a × SpellsParts qs b
 split [] qs text h = ([], text, refl, refl, h)
 split (p ∷ ps) qs text (first, rest, is, one, more) =
@@ -57,7 +57,7 @@ split (p ∷ ps) qs text (first, rest, is, one, more) =
 no_text : (rows : Rows) → rows.parts ≡ [] → ValidRows rows
 no_text rows e text h = subst IsUtf8 (sym (subst (λ (ps : List Part). SpellsParts ps text) e h)) IsUtf8-nil
 
-none_valid : (rows : Rows) → rows ≡ no_rows → ValidRows rows
+pub none_valid : (rows : Rows) → rows ≡ no_rows → ValidRows rows
 none_valid rows e = no_text rows (ap (λ (r : Rows). r.parts) e)
 
 and_valid : (first later rows : Rows) → rows ≡ and_rows first later → ValidRows first → ValidRows later → ValidRows rows
@@ -69,7 +69,7 @@ all_valid Comes each [] rows e = none_valid rows e
 all_valid Comes each (x ∷ xs) rows (first, later, one, more, is) = and_valid first later rows is (each x first one) (all_valid Comes each xs later more)
 
 module _ (s : MemSystem) (h : HoldsBytes s) (columns : List Tag) (form : TextForm) (valid : is_valid_form form ≡ true) where
-  file_valid : (name : List ℕ) (o : Option (List ℕ)) (rows : Rows) → ((bytes : List ℕ) → o ≡ Some bytes → IsOpened name bytes) → FileComes columns form name o rows → ValidRows rows
+  pub file_valid : (name : List ℕ) (o : Option (List ℕ)) (rows : Rows) → ((bytes : List ℕ) → o ≡ Some bytes → IsOpened name bytes) → FileComes columns form name o rows → ValidRows rows
   file_valid name None rows f e = no_text rows (ap (λ (r : Rows). r.parts) e)
   file_valid name (Some bytes) rows f (cells, end, row, e) =
       let is = f bytes refl in
@@ -140,11 +140,11 @@ tag_low w t p =
 
 -- ---- columns that words give
 
-abbrev LowNumber : Option (List ℕ) → Type 0
+abbrev pub LowNumber : Option (List ℕ) → Type 0
 LowNumber None = Unit {0}
 LowNumber (Some number) = list_all low number ≡ true
 
-abbrev LowColumn : words.Column → Type 0
+abbrev pub LowColumn : words.Column → Type 0
 LowColumn c = LowNumber c.number
 
 ok_is : {A E : Type 0} (x y : A) → (let r : Result A E = Ok x in r ≡ Ok y) → x ≡ y
@@ -220,7 +220,7 @@ said_columns said t e = by (words.refused 2 said) (words.columns_meant said) e
     by None (Err u) e = cc
     by None (Ok columns) e = ap Ok (named_columns said columns t (words.names_meant (words.names_in said)) e)
 
-table_low : (ws : List (List ℕ)) (t : words.Table) → words.meant_table ws ≡ Ok t → All LowColumn t.columns
+pub table_low : (ws : List (List ℕ)) (t : words.Table) → words.meant_table ws ≡ Ok t → All LowColumn t.columns
 unfolding words.meant_table
 table_low [] t e = absurd cc
 table_low (tool ∷ ws) t e = by (bytes_eq tool (codes "dcm2csv")) e
@@ -248,7 +248,7 @@ columns_utf8 (c ∷ cs) h =
     both (both (low_utf8 comma refl) (quoted_valid (header_of (column_of c)) (column_utf8 c.tag c.number (All-head LowColumn c cs h))))
     (columns_utf8 cs (All-tail LowColumn c cs h))
 
-header_utf8 : (has_header : Bool) (cs : List words.Column) → All LowColumn cs → IsUtf8 (header_bytes has_header (map column_of cs))
+pub header_utf8 : (has_header : Bool) (cs : List words.Column) → All LowColumn cs → IsUtf8 (header_bytes has_header (map column_of cs))
 header_utf8 false cs h = IsUtf8-nil
 header_utf8 true cs h = both (quoted_valid (codes "File") (low_utf8 (codes "File") refl)) (both (columns_utf8 cs h) (low_utf8 newline refl))
 

@@ -11,10 +11,11 @@ use Rattle.dcm_table_words.specs.Table.{Table, meant_table}
 use Rattle.dcm_words.specs.Words.{dump_decoded}
 use Rattle.dcm_cli.specs.Answer.{Answer, Answers, Sure}
 use Rattle.dcm_cli.specs.InMemory.{bytes_at}
-use Rattle.dcm_dumps.specs.DumpsInMemory.{DumpsOutcome, DumpsCome}
+use Rattle.dcm_dumps.specs.DumpsInMemory.{DumpsOutcome, DumpsCome, Texts, TextsCome}
 use Rattle.dcm_dumps.specs.Words.{Dumps, meant_dumps}
-use Rattle.dcm_tables.specs.TableInMemory.{TableOutcome, TableComes}
+use Rattle.dcm_tables.specs.TableInMemory.{Rows, RowsCome, TableOutcome, TableComes}
 use Rattle.dcm_tables.specs.TableProgram.{form_of}
+use Rattle.dcm_text_laws.specs.Standing.{DumpsStand, TableStands, parts_with}
 
 -- ---- one dump
 
@@ -44,9 +45,33 @@ DumpsAreUtf8 =
     → HoldsBytes s → meant_dumps words ≡ Ok asked → asked.job ≡ dump_decoded d mode bare → DumpsCome words s o
     → o.text ≡ Some text → IsUtf8 text
 
+-- so is what stands written of them at each time where no writer failed: after each whole file, and at each beginning of
+-- one, whatever could not be read
+abbrev pub DumpsSoFarAreUtf8 : Type 0
+DumpsSoFarAreUtf8 =
+    (words : List (List ℕ)) (s : MemSystem) (asked : Dumps) (d : Dictionary) (mode : Mode) (bare : Option Syntax)
+    (text : List ℕ)
+    → HoldsBytes s → meant_dumps words ≡ Ok asked → asked.job ≡ dump_decoded d mode bare → DumpsStand s asked text
+    → IsUtf8 text
+
+-- what all files come to is what stands in the end
+abbrev pub DumpsEndStands : Type 0
+DumpsEndStands = (s : MemSystem) (asked : Dumps) (t : Texts) → TextsCome s asked t → DumpsStand s asked t.text
+
 -- a table: its header, and the rows of all files, unless texts are left as they are
 abbrev pub TableIsUtf8 : Type 0
 TableIsUtf8 =
     (words : List (List ℕ)) (s : MemSystem) (t : Table) (o : TableOutcome) (parts : List Part) (text : List ℕ)
     → HoldsBytes s → meant_table words ≡ Ok t → is_valid_form (form_of t.texts) ≡ true → TableComes words s o
     → o.parts ≡ Some parts → SpellsParts parts text → IsUtf8 text
+
+-- so is what stands written of it after the header, and after each row
+abbrev pub TableSoFarIsUtf8 : Type 0
+TableSoFarIsUtf8 =
+    (words : List (List ℕ)) (s : MemSystem) (t : Table) (parts : List Part) (text : List ℕ)
+    → HoldsBytes s → meant_table words ≡ Ok t → is_valid_form (form_of t.texts) ≡ true → TableStands s t parts
+    → SpellsParts parts text → IsUtf8 text
+
+-- and all rows are what stands in the end
+abbrev pub TableEndStands : Type 0
+TableEndStands = (s : MemSystem) (t : Table) (rows : Rows) → RowsCome s t rows → TableStands s t (parts_with t rows.parts)
