@@ -3,7 +3,7 @@ use Rattle.std.specs.Prelude.{codes, decimal, ◌==◌, ◌||◌, ◌/◌, ◌%�
 use Rattle.std.proofs.lemmas.Bool.{eqb-true}
 use Rattle.std.specs.List.{list_all}
 use Rattle.std.specs.Fmt.{digits, digits_onto, digit_glyph}
-use Rattle.std.proofs.Common.{◌≡◌, ◌∙◌, refl, sym, ap, subst, ℕ, zero, suc, ◌+◌, ◌<◌, ◌≤◌, List, [], ◌∷◌, ◌++◌, length, take, drop, Bool, true, false, ◌&&◌, Option, Some, None, Result, Ok, Err, arith, append_assoc}
+use Rattle.std.proofs.Common.{◌≡◌, ◌∙◌, refl, sym, ap, subst, ℕ, zero, suc, ◌+◌, ◌≤◌, List, [], ◌∷◌, ◌++◌, length, take, drop, Bool, true, false, ◌&&◌, Option, Some, None, Result, Ok, arith, append_assoc}
 use Rattle.dcm_base.specs.Tree.Front.{Front, front as a_front}
 use Rattle.dcm_base.specs.declared.syntax.Syntax.{Syntax}
 use Rattle.dcm_base.specs.Tables.Transfer.{without_pads}
@@ -16,7 +16,7 @@ use Rattle.dcm_instance.specs.declared.names.InstanceUid.TheVariants as uids
 use Rattle.dcm_instance.specs.declared.names.NoInstance.{NoInstance}
 use Rattle.dcm_instance.specs.ReadInstance.{FileNames, no_set, of_set}
 use Rattle.dcm_instance.specs.Uids.{Uids, instance_name, uids_of, is_fit, fit_of, named, instance_in, uid_in, value_in, up_to_series, uid_tag, names_a_folder}
-use Rattle.dcm_walk.specs.Folder.{IsFit, is_unfit}
+use Rattle.dcm_walk.specs.Folder.{IsFit}
 use Rattle.dcm_walk.specs.List.{IsSlash}
 use Rattle.dcm_walk.specs.Names.{PATH_LIMIT, below, is_slash, is_dot, ends_part, after_dot, begins_part, goes_below, leads_below}
 use Rattle.dcm_walk.specs.Visits.{Named}

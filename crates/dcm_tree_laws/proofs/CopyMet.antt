@@ -14,7 +14,6 @@ use Rattle.dcm_walk.specs.List.{IsSlash}
 use Rattle.dcm_walk.specs.Names.{below, is_slash, PATH_LIMIT}
 use Rattle.dcm_cli.specs.Calls.{Reader}
 use Rattle.dcm_trees.specs.declared.fate.Fate.{Fate}
-use Rattle.dcm_trees.specs.declared.fate.Fate.TheVariants as fates
 use Rattle.dcm_trees.specs.declared.part.Naming.{Naming}
 use Rattle.dcm_trees.specs.declared.part.Naming.TheVariants.{Linked, Moved, NotFree, Failed}
 use Rattle.dcm_trees.specs.declared.place.Place.{Place}

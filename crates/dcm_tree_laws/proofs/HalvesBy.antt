@@ -1,10 +1,8 @@
 -- Each output of a run is whole, of the file of a name that was read in it.
-use Rattle.std.proofs.Common.{◌≡◌, refl, sym, ap, ℕ, List}
+use Rattle.std.proofs.Common.{refl, sym, ap, ℕ, List}
 use Rattle.dcm_devices.specs.Writing.{Writer}
 use Rattle.dcm_files.specs.declared.folders.Links.{Links}
 use Rattle.dcm_walk.specs.Visits.{Named}
-use Rattle.dcm_walk.specs.declared.visitor.What.{What}
-use Rattle.dcm_walk.specs.declared.visitor.What.TheVariants.{File}
 use Rattle.dcm_tree_words.specs.Trees.{Source}
 use Rattle.dcm_cli.specs.Calls.{Reader}
 use Rattle.dcm_trees.specs.Task.{Task, task_of}
@@ -17,7 +15,7 @@ use Rattle.dcm_tree_laws.proofs.Held.{GivesAll, held_gives}
 use Rattle.dcm_tree_laws.proofs.Near.{StaysIn}
 use Rattle.dcm_tree_laws.proofs.OfRuns.{after_run, stays_so}
 use Rattle.dcm_tree_laws.proofs.Runs.{RightOf}
-use Rattle.dcm_tree_laws.proofs.Seen.{Saw, SawFile}
+use Rattle.dcm_tree_laws.proofs.Seen.{SawFile}
 use Rattle.dcm_tree_laws.proofs.SinglesBy.{answered, opens_holds}
 
 -- ---- the file of a name

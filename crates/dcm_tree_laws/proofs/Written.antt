@@ -7,8 +7,7 @@ use Rattle.dcm_walk.specs.Visits.{Named}
 use Rattle.dcm_walk.specs.declared.visitor.What.{What}
 use Rattle.dcm_walk.specs.declared.visitor.What.TheVariants as whats
 use Rattle.dcm_words.specs.Words.{Job}
-use Rattle.dcm_cli.specs.Calls.{Reader, Finishes}
-use Rattle.dcm_cli.specs.declared.ending.Ending.{Ending}
+use Rattle.dcm_cli.specs.Calls.{Reader}
 use Rattle.dcm_trees.specs.declared.fate.Fate.{Fate}
 use Rattle.dcm_trees.specs.declared.fate.Fate.TheVariants as fates
 use Rattle.dcm_trees.specs.declared.part.NoPart.{NoPart}
@@ -25,12 +24,10 @@ use Rattle.dcm_instance.specs.declared.names.NoInstance.{NoInstance}
 use Rattle.dcm_instance.specs.declared.names.NoInstance.TheVariants as no_instances
 use Rattle.dcm_trees.specs.Lines.{ending_fate, no_days_fate, place_fate}
 use Rattle.dcm_trees.specs.Manner.{Manner}
-use Rattle.dcm_trees.specs.Opening.{OpensFile}
-use Rattle.dcm_trees.specs.Task.{Task, FindsJob}
 use Rattle.dcm_trees.specs.Part as part_spec
 use Rattle.dcm_trees.specs.Part.{NamesOutput, FillsAndNames, TellsNoPart}
 use Rattle.dcm_tree_laws.specs.FileSystem.{FileSystem, Host, may_do, folders_do}
-use Rattle.dcm_tree_laws.specs.Laws.{IsOutput, over}
+use Rattle.dcm_tree_laws.specs.Laws.{over}
 use Rattle.dcm_tree_laws.proofs.Near.{IsNear}
 use Rattle.dcm_tree_laws.proofs.Files.{path_is}
 pub use Rattle.dcm_tree_laws.proofs.Filling.{always_gives}
