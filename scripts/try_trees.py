@@ -491,7 +491,7 @@ def deep_tree(room):
     """64 folders, one in another, with a file in each."""
     around = ["sh", "-c", f'ulimit -s {STACK} && exec "$@"', "sh"]
     wrong = []
-    for tool in ("dcmconv +te", "dcmodify -ea PatientName", "dcmdeid +ru +kn", "dcmdeid +ru"):
+    for tool in ("dcmconv +te", "dcmodify -m PatientID=8", "dcmdeid +ru +kn", "dcmdeid +ru"):
         folder = room.folder({b"in/" + name: content for name, content in DEEP_INSTANCES.items()})
         before = files_of(folder)
         done = room.run(f"{tool} +r in out", folder, around=around)
