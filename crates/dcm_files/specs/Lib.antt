@@ -6,3 +6,4 @@ pub mod Memory
 pub mod Part
 pub mod Call
 pub mod Host
+pub mod HostFolder

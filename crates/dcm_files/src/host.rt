@@ -14,7 +14,7 @@ use either::{Either, Left, Right};
 use std::alloc::AllocError;
 use std::env::{Env, FillError};
 use std::fs::{File, Files, Metadata, OpenOptions};
-use std::io::{BufWriter, ErrorKind, Stdin, Stdout};
+use std::io::{BufWriter, ErrorKind, Read, Stdin, Stdout};
 use std::os::fd::AsFd;
 use std::os::unix::fs::{MetadataExt, OpenOptionsExt};
 use std::{fs, io};
@@ -231,7 +231,9 @@ fn find_at(rt: HostRuntime, path: &str, links: Links) -> io::Result<Option<Found
 }
 
 /// Opens a folder, to list its names.
-fn open_names(rt: HostRuntime, path: &str) -> io::Result<HostNames> {
+fn open_names(rt: HostRuntime, path: &str) -> io::Result<HostNames>
+    ensures { IfOk result (λ folder. folder.pending ≡ []) }
+{
     Ok(HostFolder::new(rt.open_dir(path)?))
 }
 
@@ -344,7 +346,7 @@ impl System for Host {
 impl Folders for Host {
     type Folder = HostNames;
 
-    ghost folders_do = { noted_folders (λ host. host.calls.made) };
+    ghost folders_do = { noted_folders (λ host. host.calls.made) ⟦<<HostRuntime as Files>::Dir as Read>⟧.remaining };
 
     fn open_folder(&mut self, path: &str) -> io::Result<HostNames> {
         let opened = open_names(self.rt, path);

@@ -10,8 +10,7 @@
 //!   a `File` is one.
 //! - `next_piece` reads an input piece by piece.
 //! - `specs` says what a call leaves: `Devices` of opening, `Output` of a file that is written, `Pieces` of a piece;
-//!   `Folders` of folders; `Host` and
-//!   `Call` of the real system.
+//!   `Folders` of folders; `Host`, `HostFolder` and `Call` of the real system.
 //!
 //! Two writes and a flush. A `target` that held bytes is emptied once, before the first of them:
 //!
