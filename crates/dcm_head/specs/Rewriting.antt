@@ -50,6 +50,7 @@ pub record StaysAs (renewed : Renewed) (old new : MetaElement) : Type 0 where
   pub value : renewed_value renewed old.value.now ≡ Some new.value.now
   pub tag : new.tag ≡ old.tag
   pub vr : new.vr ≡ old.vr
+  pub after : new.after.now ≡ old.after.now
 
 -- what is written of it
 abbrev pub written_stay : Renewed → Bool → List ℕ → MetaElement → List ℕ
