@@ -1,12 +1,13 @@
 -- The program over the system that it runs on, whose devices are over readers and writers of the standard library. Of
 -- these it is known which bytes they said they gave or took.
-use Rattle.std.specs.Prelude.{◌≡◌, ℕ, List, [], false, Option, None, Some}
+use Rattle.std.specs.Prelude.{◌≡◌, ℕ, List, [], false, Option, None, Some, Result, Ok, Err}
 use Rattle.dcm_devices.specs.Device.{Notes, TakesFrom, Gave}
 use Rattle.dcm_devices.specs.Writing.{Writer}
 use Rattle.dcm_devices.specs.declared.std_device.Std.{Std}
 use Rattle.dcm_files.specs.Call.{Call}
 use Rattle.dcm_files.specs.Devices.{MayDo}
 use Rattle.dcm_files.specs.Host.{IsNew}
+use Rattle.dcm_files.specs.declared.host.NoHost.{NoHost}
 use Rattle.dcm_words.specs.Words.{Job}
 use Rattle.dcm_cli.specs.Calls.{Reader, Runs}
 use Rattle.dcm_cli.specs.Change.{Change, change_of}
@@ -49,13 +50,13 @@ RunsByBytes T U tells =
     errors status
 
 -- the program ended with this status, and these are left: a system of which no call had been made gave words, and they
--- were obeyed, or there was no memory for them; or the system could not be used, and no call of it was made. What a run
--- over a tree does is said of what standard error was and is.
+-- were obeyed, or there was no memory for them; or the system was asked for and could not be used, and no call of it was
+-- made. What a run over a tree does is said of what standard error was and is.
 pub data ProgramEnds {S I O E : Type 0} (calls : S → List Call) (may : MayDo S I O) (r : Reader I) (w : Writer O)
-    (Trees : (from to : Std E) → TreeRuns S) (host : Option S) (errors : Std E) (status : ℕ) : Type 0 where
-  started : (errors_before : Std E) (before after : S) → IsNew errors_before → calls before ≡ [] → host ≡ Some after
+    (Trees : (from to : Std E) → TreeRuns S) (host : Result S NoHost) (errors : Std E) (status : ℕ) : Type 0 where
+  started : (errors_before : Std E) (before after : S) → IsNew errors_before → calls before ≡ [] → host ≡ Ok after
       → Starts may r w (Trees errors_before errors) (change_of std_writer errors_before errors) before status after
       → ProgramEnds calls may r w Trees host errors status
-  not_started : (errors_before : Std E) → IsNew errors_before → host ≡ None
+  not_started : (errors_before : Std E) (cause : NoHost) → IsNew errors_before → host ≡ Err cause
       → Reports (change_of std_writer errors_before errors) (open_line false) → status ≡ DEVICE
       → ProgramEnds calls may r w Trees host errors status
