@@ -12,7 +12,7 @@ use Rattle.dcm_words.specs.Words.{Job}
 use Rattle.dcm_cli.specs.Calls.{Reader, Runs}
 use Rattle.dcm_cli.specs.Change.{Change, change_of}
 use Rattle.dcm_cli.specs.ErrorLines.{Reports, open_line}
-use Rattle.dcm_cli.specs.InputCalls.{How}
+use Rattle.dcm_cli.specs.InputCalls.{How, IsUndecided, ReadsInput}
 use Rattle.dcm_cli.specs.Run.{Ran}
 use Rattle.dcm_cli.specs.Status.{DEVICE}
 use Rattle.dcm_tables.specs.TableProgram.{Starts, TreeRuns}
@@ -40,14 +40,15 @@ GivesWhatPassed T tells =
     (before after : Std T) (given : List ℕ) → IsNew before
     → Gave (std_reader tells).gets before given after → given ≡ after.passed.bytes
 
--- a run over new devices: the bytes that its output took are what comes of the bytes that its input gave
+-- a run over new devices: the bytes that its output took are what comes of the bytes that its input gave, and how its
+-- reading ended is what its calls say, none of which was made once the answer was decided
 abbrev pub RunsByBytes : (T U : Type 0) → (tells : T → Option (List ℕ)) → Type 0
 RunsByBytes T U tells =
     (job : Job) (errors : Change) (before after : Std T) (output_before output_after : Std U) (status : ℕ)
     → IsNew before → IsNew output_before
     → Runs (std_reader tells) std_writer job errors before after output_before output_after status
-    → (how : How) × Ran job after.passed.bytes how after.failed (change_of std_writer output_before output_after)
-    errors status
+    → (how : How) × ReadsInput (std_reader tells) (IsUndecided job) before after.passed.bytes how after
+    × Ran job after.passed.bytes how after.failed (change_of std_writer output_before output_after) errors status
 
 -- the program ended with this status, and these are left: a system of which no call had been made gave words, and they
 -- were obeyed, or there was no memory for them; or the system was asked for and could not be used, and no call of it was
