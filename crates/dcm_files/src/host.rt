@@ -245,17 +245,26 @@ pub struct Host {
     _reserved: Reserved,
 }
 
+/// That the system cannot be used. None but `Host::new` makes one, so who has one has asked for the system.
+#[derive(Debug, Drop)]
+pub struct NoHost {
+    _cause: io::Error,
+}
+
 impl Host {
     /// The system, with the numbers of the standard streams that are closed taken. An error where they cannot be taken.
-    pub fn new(rt: HostRuntime) -> io::Result<Self>
+    pub fn new(rt: HostRuntime) -> Result<Self, NoHost>
         ensures runtime { IfOk result (λ host. host.rt ≡ rt) }
         ensures calls { IfOk result (λ host. host.calls.made ≡ []) }
     {
-        Ok(Host {
-            rt,
-            calls: Calls::new(),
-            _reserved: reserve(rt)?,
-        })
+        match reserve(rt) {
+            Ok(reserved) => Ok(Host {
+                rt,
+                calls: Calls::new(),
+                _reserved: reserved,
+            }),
+            Err(cause) => Err(NoHost { _cause: cause }),
+        }
     }
 }
 

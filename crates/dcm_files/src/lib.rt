@@ -35,7 +35,7 @@ mod pieces;
 pub use calls::Calls;
 pub use devices::{System, clash, open_devices, open_input, open_output, unopened};
 pub use folders::{EntryName, Folders, Found, FoundKind, Links, MOST_OF_ENTRY};
-pub use host::Host;
+pub use host::{Host, NoHost};
 pub use host_folder::HostFolder;
 pub use memory::{MemFile, MemSystem, NoFolder};
 pub use opened::{FileKind, Opened, Unopened};

@@ -4,7 +4,7 @@ use Rattle.std.proofs.lemmas.List.{append-nil}
 use Rattle.dcm_devices.specs.Device.{Gave, no_calls, and_call, Notes}
 use Rattle.dcm_devices.specs.declared.std_device.Std.{Std}
 use Rattle.dcm_cli.specs.Change.{change_of}
-use Rattle.dcm_cli.specs.InputCalls.{How, InputCalls, no_call, last_call}
+use Rattle.dcm_cli.specs.InputCalls.{How, InputCalls, no_call, last_call, IsUndecided, ReadsInput}
 use Rattle.dcm_cli.specs.Run.{Ran}
 use Rattle.dcm_tables.specs.OverStd.{std_reader, std_writer, GivesWhatPassed, RunsByBytes}
 
@@ -34,6 +34,7 @@ runs_by_bytes T U tells job errors before after out_before out_after status is_n
     let all : after.passed.bytes ≡ runs.given =
     calls_noted tells before _ runs.given runs.how after runs.reads.calls ∙ ap (λ (b : List ℕ). b ++ runs.given) is_new.unused in (
       runs.how,
+      subst (λ (bytes : List ℕ). ReadsInput (std_reader tells) (IsUndecided job) before bytes runs.how after) (sym all) runs.reads,
       subst (λ (bytes : List ℕ). Ran job bytes runs.how after.failed (change_of std_writer out_before out_after) errors status) (sym all)
           (runs.ran is_new.sound out_is_new.sound),
     )

@@ -65,8 +65,9 @@ pub fn table_is_some()
     ensures { TableIsSome }
 {}
 
-/// Over files, pipes and terminals too, the bytes that a run put are what comes of the bytes that it was given. The
-/// devices are those of the system, newly opened; what they said that they gave and took is known.
+/// Over files, pipes and terminals too, the bytes that a run put are what comes of the bytes that it was given. How its
+/// reading ended is what its calls say, and none was made once the answer was decided. The devices are those of the
+/// system, newly opened; what they said that they gave and took is known.
 pub fn runs_by_bytes<T: Read, U: Write>()
     ensures given { GivesWhatPassed T T.remaining }
     ensures runs { RunsByBytes T U T.remaining }

@@ -17,7 +17,7 @@ use dcm_base::{DeviceOut, Std, Watched, flush_out};
 use dcm_cli::status::{DEVICE, USAGE};
 use dcm_cli::{Usage, asked, tell, tell_open, tell_output, tell_unopened};
 use dcm_dumps::{asks_dumps, obey_dumps};
-use dcm_files::{Folders, Host, System, Unopened, unopened};
+use dcm_files::{Folders, Host, NoHost, System, Unopened, unopened};
 use dcm_table::{Cells, Column, Columns, TextForm};
 use dcm_table_words::{TableColumn, TablePlan, Texts, put_usage, table_plan};
 use dcm_tree_words::asks_tree;
@@ -237,8 +237,8 @@ pub fn start<S: Folders, E: DeviceOut>(system: &mut S, alloc: Global, errors: &m
 pub struct Ended {
     /// The exit status.
     pub status: u8,
-    /// The system, or none where it could not be used.
-    pub host: Option<Host>,
+    /// The system, or that it was asked for and could not be used.
+    pub host: Result<Host, NoHost>,
     /// Standard error.
     pub errors: Watched<Std<Stderr>>,
 }
@@ -261,13 +261,13 @@ pub fn dcmtools(rt: HostRuntime) -> Ended
             let status = start(&mut host, rt.alloc(), &mut errors);
             Ended {
                 status,
-                host: Some(host),
+                host: Ok(host),
                 errors,
             }
         }
-        Err(_) => Ended {
+        Err(cause) => Ended {
             status: tell_open(false, &mut errors),
-            host: None,
+            host: Err(cause),
             errors,
         },
     }
