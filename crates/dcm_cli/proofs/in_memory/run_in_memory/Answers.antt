@@ -20,7 +20,7 @@ returns c = λ fine a answers enough.
     let here = known _ _ _ _ run.given run.how run.reads c.new-input.result.rest.now refl in
     let left = memory_left (job_of c.args.job.now) run.given here.0 run.how here.1 c.new-out.result.out c.run-outcome.new.out.out c.new-errors.result.out c.run-outcome.new.errors.out c.run-outcome.result.status
     (run.ran refl (ap (λ (m : MemOut). m.failed) out ∙ fine)) a
-    (subst (λ (bytes : List ℕ). Answers (job_of c.args.job.now) bytes a) here.2 (subst (λ (m : MemIn). Answers (job_of c.args.job.now) m.rest.now a) (sym c.new-input.ensures.rest) answers)) (subst (λ (m : MemOut). length a.output ≤ room_of m) (sym out) enough)
+    (subst (λ (bytes : List ℕ). Answers (job_of c.args.job.now) bytes a) here.2 (subst (λ (m : MemIn). Answers (job_of c.args.job.now) m.rest.now a) (sym c.new-input.ensures) answers)) (subst (λ (m : MemOut). length a.output ≤ room_of m) (sym out) enough)
     in
     subst (λ (m : MemOut). LeavesAnswer a m c.into_inner.result c.args.errors c.into_inner-2.result c.run-outcome.result.status) out
     (subst (λ (m : MemOut). LeavesAnswer a c.new-out.result.out m c.args.errors c.into_inner-2.result c.run-outcome.result.status) new_out
