@@ -481,7 +481,7 @@ def try_case(room, case):
 
 
 # what PROFILE says that a run over a tree needs at most, in KB
-STACK = 1200
+STACK = 900
 
 DEEP_NAMES = [b"d/" * depth + b"a" for depth in range(64)]
 DEEP_INSTANCES = {name: instance(b"1.2", b"1.3", b"1.%d" % depth) for depth, name in enumerate(DEEP_NAMES)}
