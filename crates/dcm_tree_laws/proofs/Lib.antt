@@ -40,6 +40,7 @@ pub mod Cleared
 pub mod ClearedBy
 pub mod PartsBy
 pub mod PartOfRuns
+pub mod CourseBy
 pub mod Held
 pub mod Answered
 pub mod SinglesBy
