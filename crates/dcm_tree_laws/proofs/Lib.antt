@@ -20,6 +20,7 @@ pub mod Beginnings
 pub mod Runs
 pub mod OfRuns
 pub mod RowsBy
+pub mod ManifestBy
 pub mod Programs
 pub mod HalvesBy
 pub mod Forgets

@@ -14,7 +14,7 @@ ghost use Rattle.dcm_tree_laws.specs.Kept.{AgainIsKept, AgainIsKeptOfList, KeptI
 ghost use Rattle.dcm_tree_laws.specs.Kept.{SecondIsKept, SecondIsKeptOfList, StaysFree, WithoutIsLeft};
 ghost use Rattle.dcm_tree_laws.specs.Halves.{NeverHalf, NeverHalfByWords, NeverHalfOfBytes};
 ghost use Rattle.dcm_tree_laws.specs.Laws.{OthersStay, OthersStayByWords};
-ghost use Rattle.dcm_tree_laws.specs.OneRow.{OneRow, OneRowOfList};
+ghost use Rattle.dcm_tree_laws.specs.OneRow.{OneRow, OneRowOfList, OneRowOfRun};
 ghost use Rattle.dcm_tree_laws.specs.Outputs.{WrittenIsThere, WrittenIsThereOfList};
 ghost use Rattle.dcm_tree_laws.specs.Part.{NoPartAfterRun, NoPartLeft, NoPartLeftByList};
 ghost use Rattle.dcm_tree_laws.specs.Shares.{ManifestOfShare, OneOutput, OneShare, RowsOfRuns};
@@ -59,11 +59,14 @@ pub fn runs_begin_so<I: DeviceIn, O: DeviceOut, W: DeviceOut, E: DeviceOut, F>()
 {}
 
 /// The manifest of a tree has one row for each name. These are the names of a run's share that it visits, in their
-/// order. So it is over any system, where the run does not end before its last name.
+/// order. So it is over any system, where the run does not end before its last name. In the manifest of a run as a whole
+/// the first row is before them, where it is wanted. A run that visits no names for want of that row, or since it is not
+/// begun, has the status 4, and where it is not begun its manifest is as it was.
 pub fn one_row<S: Folders, W: DeviceOut, E: DeviceOut>()
     ensures folder { OneRow (world S.may_do S.folders_do S.Input.DeviceIn S.Output.DeviceOut E.DeviceOut) W.DeviceOut }
     ensures list { OneRowOfList (world S.may_do S.folders_do S.Input.DeviceIn S.Output.DeviceOut E.DeviceOut)
         W.DeviceOut }
+    ensures run { OneRowOfRun (world S.may_do S.folders_do S.Input.DeviceIn S.Output.DeviceOut E.DeviceOut) W.DeviceOut }
 {}
 
 /// A row that says that an output was written is right. At the end of a run the file is at its path in the folder of
