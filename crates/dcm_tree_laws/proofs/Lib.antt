@@ -20,6 +20,7 @@ pub mod Beginnings
 pub mod Runs
 pub mod OfRuns
 pub mod RowsBy
+pub mod ManifestBy
 pub mod Programs
 pub mod HalvesBy
 pub mod Forgets
@@ -40,6 +41,7 @@ pub mod Cleared
 pub mod ClearedBy
 pub mod PartsBy
 pub mod PartOfRuns
+pub mod CourseBy
 pub mod Held
 pub mod Answered
 pub mod SinglesBy

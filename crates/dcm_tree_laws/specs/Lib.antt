@@ -22,3 +22,4 @@ pub mod ToldAs
 pub mod Behind
 pub mod Kept
 pub mod Halves
+pub mod Course

@@ -6,6 +6,7 @@ ghost use Rattle.dcm_tree_laws.specs.Behind.{RowsAreToldBehind, RowsAreToldBehin
 ghost use Rattle.dcm_tree_laws.specs.Copied.{CopiesAreThere, CopiesAreThereOfList};
 ghost use Rattle.dcm_tree_laws.specs.Copied.{SecondIsAsItWas, SecondIsAsItWasOfList};
 ghost use Rattle.dcm_tree_laws.specs.Copies.{CopyIsLeft, UnnamedIsLeft, AgainIsAsItWas, AgainIsAsItWasOfList};
+ghost use Rattle.dcm_tree_laws.specs.Course.{RunsBeginSo};
 ghost use Rattle.dcm_tree_laws.specs.Determined.{OneEnd, EndIsAnswer, OneInstance};
 ghost use Rattle.dcm_tree_laws.specs.Distinct.{OutputsAreDistinct, OutputsAreDistinctOfList};
 ghost use Rattle.dcm_tree_laws.specs.Flows.{NoNameFlows, SameBecomes};
@@ -13,7 +14,7 @@ ghost use Rattle.dcm_tree_laws.specs.Kept.{AgainIsKept, AgainIsKeptOfList, KeptI
 ghost use Rattle.dcm_tree_laws.specs.Kept.{SecondIsKept, SecondIsKeptOfList, StaysFree, WithoutIsLeft};
 ghost use Rattle.dcm_tree_laws.specs.Halves.{NeverHalf, NeverHalfByWords, NeverHalfOfBytes};
 ghost use Rattle.dcm_tree_laws.specs.Laws.{OthersStay, OthersStayByWords};
-ghost use Rattle.dcm_tree_laws.specs.OneRow.{OneRow, OneRowOfList};
+ghost use Rattle.dcm_tree_laws.specs.OneRow.{OneRow, OneRowOfList, OneRowOfRun};
 ghost use Rattle.dcm_tree_laws.specs.Outputs.{WrittenIsThere, WrittenIsThereOfList};
 ghost use Rattle.dcm_tree_laws.specs.Part.{NoPartAfterRun, NoPartLeft, NoPartLeftByList};
 ghost use Rattle.dcm_tree_laws.specs.Shares.{ManifestOfShare, OneOutput, OneShare, RowsOfRuns};
@@ -48,12 +49,24 @@ pub fn never_half<I: DeviceIn, O: DeviceOut, W: DeviceOut, E: DeviceOut, F>()
     ensures words { NeverHalfByWords F I.DeviceIn O.DeviceOut E.DeviceOut }
 {}
 
+/// A run over a tree ends before its first name, or visits its names from a state as the laws of names ask for it. In
+/// that state no file is being written, no removing of a file has failed, the path of the part is the run's own, and
+/// nothing is there. Up to then no more was done than to make the folder of the outputs where nothing was. A run that is
+/// refused, or whose first row cannot be written, tells that and does no more either; where it is refused its manifest is
+/// as it was. So it is whatever calls fail.
+pub fn runs_begin_so<I: DeviceIn, O: DeviceOut, W: DeviceOut, E: DeviceOut, F>()
+    ensures { RunsBeginSo F I.DeviceIn O.DeviceOut W.DeviceOut E.DeviceOut }
+{}
+
 /// The manifest of a tree has one row for each name. These are the names of a run's share that it visits, in their
-/// order. So it is over any system, where the run does not end before its last name.
+/// order. So it is over any system, where the run does not end before its last name. In the manifest of a run as a whole
+/// the first row is before them, where it is wanted. A run that visits no names for want of that row, or since it is not
+/// begun, has the status 4, and where it is not begun its manifest is as it was.
 pub fn one_row<S: Folders, W: DeviceOut, E: DeviceOut>()
     ensures folder { OneRow (world S.may_do S.folders_do S.Input.DeviceIn S.Output.DeviceOut E.DeviceOut) W.DeviceOut }
     ensures list { OneRowOfList (world S.may_do S.folders_do S.Input.DeviceIn S.Output.DeviceOut E.DeviceOut)
         W.DeviceOut }
+    ensures run { OneRowOfRun (world S.may_do S.folders_do S.Input.DeviceIn S.Output.DeviceOut E.DeviceOut) W.DeviceOut }
 {}
 
 /// A row that says that an output was written is right. At the end of a run the file is at its path in the folder of

@@ -1,0 +1,202 @@
+-- A run over a tree is refused, or its names are visited from a state in which it was begun.
+use Rattle.std.proofs.Common.{◌≡◌, ◌∙◌, refl, sym, ap, subst, inl, inr, ◌⊎◌, ℕ, List, Bool, true, false, Some, None, Result, Ok, Err}
+use Rattle.dcm_devices.specs.Writing.{Writer}
+use Rattle.dcm_files.specs.Devices.{OpensInput}
+use Rattle.dcm_files.specs.declared.opened.Opened.{Opened}
+use Rattle.dcm_tree_words.specs.Trees.{Source, folder, list}
+use Rattle.dcm_cli.specs.Calls.{Reader}
+use Rattle.dcm_walk.specs.declared.folder.FolderNumber.{FolderNumber}
+use Rattle.dcm_trees.specs.declared.beginning.Begun.{Begun}
+use Rattle.dcm_trees.specs.declared.beginning.Refusal.{Refusal}
+use Rattle.dcm_trees.specs.declared.run.TreeRun.{TreeRun}
+use Rattle.dcm_trees.specs.Beginning as beginning
+use Rattle.dcm_trees.specs.Beginning.{MakesFolder, MakesOutput, MakesApart, HasOutput, ChecksPart, Begins, parent_of}
+use Rattle.dcm_trees.specs.Tree as spec
+use Rattle.dcm_trees.specs.Tree.{OpensTree, VisitsFolder, VisitsList, DoesOpened, DoesFolder, DoesNames, DoesList, DoesTree, part_of}
+use Rattle.dcm_tree_laws.specs.Course as course
+use Rattle.dcm_tree_laws.specs.Course.{IsMade, OnlyOutput, Ready, ComesTo, RunsBeginSo}
+use Rattle.dcm_tree_laws.specs.FileSystem as files
+use Rattle.dcm_tree_laws.specs.FileSystem.{FileSystem, Tree, Host, begins, may_do, folders_do, place_of, at_path}
+use Rattle.dcm_tree_laws.specs.Laws.{over, part_path}
+use Rattle.dcm_tree_laws.proofs.Beginnings.{numbers, climbs, is_there, numbers_folder, compares, checks_part, checks_use}
+use Rattle.dcm_tree_laws.proofs.Looking.{same_ok}
+use Rattle.dcm_tree_laws.proofs.Quiet.{are_quiet}
+use Rattle.dcm_tree_laws.proofs.Runs.{begun_part, opens_tree, opens_input}
+
+-- ---- one after another
+
+then_name : {I O : Type 0} (h : Host I O) (output place : List ℕ) (a b c : Tree) → (b.at place ≡ a.at place) ⊎ IsMade h output place a b → (c.at place ≡ b.at place) ⊎ IsMade h output place b c → (c.at place ≡ a.at place) ⊎ IsMade h output place a c
+then_name h output place a b c (inl e) (inl f) = inl (f ∙ e)
+then_name h output place a b c (inl e) (inr m) = inr (record { of_output = m.of_output; nothing = sym e ∙ m.nothing; made = m.made; is = m.is; kind = m.kind })
+then_name h output place a b c (inr m) (inl f) = inr (record { of_output = m.of_output; nothing = m.nothing; made = m.made; is = f ∙ m.is; kind = m.kind })
+then_name h output place a b c (inr m) (inr n) = inr (record { of_output = m.of_output; nothing = m.nothing; made = n.made; is = n.is; kind = n.kind })
+
+-- no more was done than to make the folder of the outputs
+record Only {I O : Type 0} (h : Host I O) (output : List ℕ) (before after : FileSystem) : Type 0 where
+  written : after.written ≡ before.written
+  unremoved : after.unremoved ≡ before.unremoved
+  only : OnlyOutput h output before.now after.now
+
+still_only : {I O : Type 0} (h : Host I O) (output : List ℕ) (before after : FileSystem) → after ≡ before → Only h output before after
+still_only h output before after same = record {
+  written = ap (λ (s : FileSystem). s.written) same;
+  unremoved = ap (λ (s : FileSystem). s.unremoved) same;
+  only = record { names = λ place. inl (ap (λ (s : FileSystem). s.now.at place) same); bytes = λ n. ap (λ (s : FileSystem). s.now.bytes n) same };
+}
+
+then_only : {I O : Type 0} (h : Host I O) (output : List ℕ) (a b c : FileSystem) → Only h output a b → Only h output b c → Only h output a c
+then_only h output a b c first second = record {
+  written = second.written ∙ first.written;
+  unremoved = second.unremoved ∙ first.unremoved;
+  only = record {
+    names = λ place. then_name h output place a.now b.now c.now (first.only.names place) (second.only.names place);
+    bytes = λ n. second.only.bytes n ∙ first.only.bytes n;
+  };
+}
+
+-- ---- the beginning
+
+made_name : {I O : Type 0} (h : Host I O) (output place : List ℕ) (before after : FileSystem) → files.MakesFolder h output before after → (place ≡ place_of h output) ⊎ (after.now.at place ≡ before.now.at place)
+    → (after.now.at place ≡ before.now.at place) ⊎ IsMade h output place before.now after.now
+made_name h output place before after makes (inl e) = inr (record { of_output = e; nothing = ap before.now.at e ∙ makes.nothing; made = makes.made; is = ap after.now.at e ∙ makes.puts.there; kind = makes.kind })
+made_name h output place before after makes (inr e) = inl e
+
+folder_only : {I O F : Type 0} (h : Host I O) (output : List ℕ) (before : FileSystem) (r : Result (Unit {0}) Refusal) (after : FileSystem) → MakesFolder (folders_do {F = F} h) output before r after → Only h output before after
+folder_only h output before r after (beginning.no_text t is same) = still_only h output before after same
+folder_only h output before r after (beginning.made t call is) = record {
+  written = call.notes.written_is;
+  unremoved = call.notes.unremoved_is;
+  only = record { names = λ place. made_name h output place before after call (call.puts.elsewhere place); bytes = call.bytes };
+}
+folder_only h output before r after (beginning.was_there e t call k is) = still_only h output before after call
+folder_only h output before r after (beginning.not_made e t call k is) = still_only h output before after call
+
+output_only : {I O F : Type 0} (h : Host I O) (output : List ℕ) (before : FileSystem) (r : Result FolderNumber Refusal) (after : FileSystem) → MakesOutput (folders_do {F = F} h) output before r after → Only h output before after
+output_only {I} {O} {F} h output before r after (beginning.not_made refusal m is) = folder_only {F = F} h output before (Err refusal) after m
+output_only {I} {O} {F} h output before r after (beginning.made mid m n) =
+    then_only h output before mid after (folder_only {F = F} h output before (Ok _) mid m) (still_only h output mid after (numbers_folder (folders_do {F = F} h) (are_quiet h) output mid r after n))
+
+apart_only : {I O F : Type 0} (h : Host I O) (input : List ℕ) (is_list : Bool) (output : List ℕ) (before : FileSystem) (r : Result FolderNumber Refusal) (after : FileSystem) → MakesApart (folders_do {F = F} h) input is_list output before r after
+    → Only h output before after
+apart_only {I} {O} {F} h input is_list output before r after (beginning.not_numbered refusal n is) = still_only h output before after (numbers (folders_do {F = F} h) (are_quiet h) input before (Err refusal) after n)
+apart_only {I} {O} {F} h input is_list output before r after (beginning.not_climbed read refusal mid n c is) =
+    still_only h output before after (climbs (folders_do {F = F} h) (are_quiet h) (parent_of output) read mid (Err refusal) after c ∙ numbers (folders_do {F = F} h) (are_quiet h) input before (Ok read) mid n)
+apart_only {I} {O} {F} h input is_list output before r after (beginning.within read way mid n c k is) =
+    still_only h output before after (climbs (folders_do {F = F} h) (are_quiet h) (parent_of output) read mid (Ok way) after c ∙ numbers (folders_do {F = F} h) (are_quiet h) input before (Ok read) mid n)
+apart_only {I} {O} {F} h input is_list output before r after (beginning.made read way mid was n c k m) =
+    then_only h output before was after
+    (still_only h output before was (climbs (folders_do {F = F} h) (are_quiet h) (parent_of output) read mid (Ok way) was c ∙ numbers (folders_do {F = F} h) (are_quiet h) input before (Ok read) mid n))
+    (output_only {F = F} h output was r after m)
+
+has_only : {I O F : Type 0} (h : Host I O) (input : List ℕ) (is_list : Bool) (output : List ℕ) (before : FileSystem) (r : Result FolderNumber Refusal) (after : FileSystem) → HasOutput (folders_do {F = F} h) input is_list output before r after
+    → Only h output before after
+has_only {I} {O} {F} h input is_list output before r after (beginning.not_looked refusal l is) = still_only h output before after (is_there (folders_do {F = F} h) (are_quiet h) output before (Err refusal) after l)
+has_only {I} {O} {F} h input is_list output before r after (beginning.was_there looked l c) =
+    still_only h output before after (compares (folders_do {F = F} h) (are_quiet h) input is_list output looked r after c ∙ is_there (folders_do {F = F} h) (are_quiet h) output before (Ok true) looked l)
+has_only {I} {O} {F} h input is_list output before r after (beginning.not_there looked l m) =
+    then_only h output before looked after (still_only h output before looked (is_there (folders_do {F = F} h) (are_quiet h) output before (Ok false) looked l)) (apart_only {F = F} h input is_list output looked r after m)
+
+begins_only : {I O F : Type 0} (h : Host I O) (input : List ℕ) (is_list : Bool) (output name : List ℕ) (continues : Bool) (before : FileSystem) (r : Result Begun Refusal) (after : FileSystem)
+    → Begins (folders_do {F = F} h) input is_list output name continues before r after → Only h output before after
+begins_only {I} {O} {F} h input is_list output name continues before r after (beginning.no_output refusal has is) = has_only {F = F} h input is_list output before (Err refusal) after has
+begins_only {I} {O} {F} h input is_list output name continues before r after (beginning.no_part number refusal has p is) = has_only {F = F} h input is_list output before (Ok number) after has
+begins_only {I} {O} {F} h input is_list output name continues before r after (beginning.has_part number path refusal mid has p c is) =
+    then_only h output before mid after (has_only {F = F} h input is_list output before (Ok number) mid has) (still_only h output mid after (checks_part (folders_do {F = F} h) (are_quiet h) path.items mid (Err refusal) after c))
+begins_only {I} {O} {F} h input is_list output name continues before r after (beginning.in_use number path refusal mid checked has p c u is) =
+    then_only h output before mid after (has_only {F = F} h input is_list output before (Ok number) mid has)
+    (still_only h output mid after (checks_use (folders_do {F = F} h) (are_quiet h) output continues checked (Err refusal) after u ∙ checks_part (folders_do {F = F} h) (are_quiet h) path.items mid (Ok _) checked c))
+begins_only {I} {O} {F} h input is_list output name continues before r after (beginning.begun number path mid checked has p c u is) =
+    then_only h output before mid after (has_only {F = F} h input is_list output before (Ok number) mid has)
+    (still_only h output mid after (checks_use (folders_do {F = F} h) (are_quiet h) output continues checked (Ok _) after u ∙ checks_part (folders_do {F = F} h) (are_quiet h) path.items mid (Ok _) checked c))
+
+-- ---- nothing is at the part
+
+nothing_there : {I O F : Type 0} (h : Host I O) (part : List ℕ) (before after : FileSystem) → ChecksPart (folders_do {F = F} h) part before (Ok _) after → at_path h after.now part ≡ None
+nothing_there h part before after (beginning.no_text t is same) = absurd (cc)
+nothing_there h part before after (beginning.nothing t call is) = ap (λ (s : FileSystem). at_path h s.now part) call.1 ∙ sym call.0
+nothing_there h part before after (beginning.is_there found t call is) = absurd (cc)
+nothing_there h part before after (beginning.not_seen e t call is) = absurd (cc)
+
+begun_free : {I O F : Type 0} (h : Host I O) (input : List ℕ) (is_list : Bool) (output part : List ℕ) (continues : Bool) (before : FileSystem) (begun : Begun) (after : FileSystem) → Begins (folders_do {F = F} h) input is_list output part continues before (Ok begun) after
+    → at_path h after.now begun.part.items ≡ None
+begun_free h input is_list output part continues before begun after (beginning.no_output refusal has is) = absurd (cc)
+begun_free h input is_list output part continues before begun after (beginning.no_part number refusal has p is) = absurd (cc)
+begun_free h input is_list output part continues before begun after (beginning.has_part number path refusal mid has p c is) = absurd (cc)
+begun_free h input is_list output part continues before begun after (beginning.in_use number path refusal mid checked has p c u is) = absurd (cc)
+begun_free {I} {O} {F} h input is_list output part continues before begun after (beginning.begun number path mid checked has p c u is) =
+    ap (λ (b : Begun). at_path h after.now b.part.items) (sym (same_ok (Ok begun) begun (record { number = number; part = path }) refl is))
+    ∙ ap (λ (s : FileSystem). at_path h s.now path.items) (checks_use (folders_do {F = F} h) (are_quiet h) output continues checked (Ok _) after u)
+    ∙ nothing_there {F = F} h path.items mid checked c
+
+ready : {I O F : Type 0} (h : Host I O) (run : TreeRun) (start : Tree) (input : List ℕ) (is_list : Bool) (begun : Begun) (mid : FileSystem) → Begins (folders_do {F = F} h) input is_list run.output.now (part_of run) run.options.continues (begins start) (Ok begun) mid
+    → Ready h run start begun mid
+ready {I} {O} {F} h run start input is_list begun mid b =
+    let only : Only h run.output.now (begins start) mid = begins_only {F = F} h input is_list run.output.now (part_of run) run.options.continues (begins start) (Ok begun) mid b in
+    let part : begun.part.items ≡ part_path run = begun_part (folders_do {F = F} h) input is_list run.output.now (part_of run) run.options.continues (begins start) begun mid b in
+    record {
+      written = only.written;
+      unremoved = only.unremoved;
+      part_is = part;
+      no_part = ap (λ (p : List ℕ). at_path h mid.now p) (sym part) ∙ begun_free {F = F} h input is_list run.output.now (part_of run) run.options.continues (begins start) begun mid b;
+      only = only.only;
+    }
+
+-- ---- the run
+
+module _ {I O W E : Type 0} (F : Type 0) (h : Host I O) (r : Reader I) (w : Writer O) (rows : Writer W) (e : Writer E) (run : TreeRun) (source : Source) (start : Tree) (manifest : W) (from : E) (status : ℕ) (left : W) (to : E) (after : FileSystem) where
+  abbrev Comes : Type 0
+  Comes = ComesTo F h r w rows e run source start manifest from status left to after
+
+  left_so : (before now : FileSystem) → now ≡ before → OnlyOutput h run.output.now start before.now → OnlyOutput h run.output.now start now.now
+  left_so before now same only = subst (λ (s : FileSystem). OnlyOutput h run.output.now start s.now) (sym same) only
+
+  nothing_done : after ≡ begins start → OnlyOutput h run.output.now start after.now
+  nothing_done same = (still_only h run.output.now (begins start) after same).only
+
+  -- ---- a folder
+
+  folder_visited : (path : List ℕ) (opened : F) (begun : Begun) (mid : FileSystem) → source ≡ folder path → OpensTree (folders_do {F = F} h) path (begins start) (Some opened) (begins start) → Ready h run start begun mid
+      → VisitsFolder (over {F = F} h r w e) rows run path begun opened manifest from mid status left to after → Comes
+  folder_visited path opened begun mid is opens ok (spec.no_header failure puts close ends) = course.no_header failure puts ends (left_so mid after close ok.only)
+  folder_visited path opened begun mid is opens ok (spec.visited headed puts v) = course.in_folder path opened begun headed mid is opens puts ok v
+
+  folder_opened : (path : List ℕ) (opened : F) → source ≡ folder path → OpensTree (folders_do {F = F} h) path (begins start) (Some opened) (begins start) → DoesOpened (over {F = F} h r w e) rows run path opened manifest from (begins start) status left to after → Comes
+  folder_opened path opened is opens (spec.not_begun refusal tried b close refuses same) =
+      course.refused refusal refuses same (left_so tried after close (begins_only {F = F} h path false run.output.now (part_of run) run.options.continues (begins start) (Err refusal) tried b).only)
+  folder_opened path opened is opens (spec.was_begun begun mid b v) = folder_visited path opened begun mid is opens (ready {F = F} h run start path false begun mid b) v
+
+  of_folder : (path : List ℕ) → source ≡ folder path → DoesFolder (over {F = F} h r w e) rows run path manifest from (begins start) status left to after → Comes
+  of_folder path is (spec.too_long long refuses same still) = course.refused _ refuses same (nothing_done still)
+  of_folder path is (spec.not_opened o refuses same) = course.refused _ refuses same (nothing_done (opens_tree {F = F} h path (begins start) None after o))
+  of_folder path is (spec.was_opened opened mid o does) =
+      let still : mid ≡ begins start = opens_tree {F = F} h path (begins start) (Some opened) mid o in
+      folder_opened path opened is (subst (OpensTree (folders_do {F = F} h) path (begins start) (Some opened)) still o)
+      (subst (λ (s : FileSystem). DoesOpened (over {F = F} h r w e) rows run path opened manifest from s status left to after) still does)
+
+  -- ---- a list
+
+  list_visited : (path : List ℕ) (opened : Opened I) (begun : Begun) (mid done : FileSystem) (read : I) → source ≡ list path → OpensInput (may_do h) path (begins start) (Ok opened) (begins start) → Ready h run start begun mid → after ≡ done
+      → VisitsList (over {F = F} h r w e) rows run path begun opened.device manifest from mid status left to done read → Comes
+  list_visited path opened begun mid done read is opens ok back (spec.no_header failure puts ends same unread) = course.no_header failure puts ends (left_so mid after (back ∙ same) ok.only)
+  list_visited path opened begun mid done read is opens ok back (spec.visited headed puts v) =
+      course.in_list path opened begun headed mid read is opens puts ok (subst (λ (s : FileSystem). spec.VisitsListed (over {F = F} h r w e) rows run path begun opened.device headed from mid status left to s read) (sym back) v)
+
+  list_opened : (path : List ℕ) (opened : Opened I) (done : FileSystem) (read : I) → source ≡ list path → OpensInput (may_do h) path (begins start) (Ok opened) (begins start) → after ≡ done
+      → DoesNames (over {F = F} h r w e) rows run path opened.device manifest from (begins start) status left to done read → Comes
+  list_opened path opened done read is opens back (spec.not_begun refusal b refuses same unread) =
+      course.refused refusal refuses same (left_so done after back (begins_only {F = F} h _ true run.output.now (part_of run) run.options.continues (begins start) (Err refusal) done b).only)
+  list_opened path opened done read is opens back (spec.was_begun begun mid b v) = list_visited path opened begun mid done read is opens (ready {F = F} h run start _ true begun mid b) back v
+
+  of_list : (path : List ℕ) → source ≡ list path → DoesList (over {F = F} h r w e) rows run path manifest from (begins start) status left to after → Comes
+  of_list path is (spec.not_opened error o told s same) = course.no_list path is told s same (opens_input {I = I} h path (begins start) (Err error) after o)
+  of_list path is (spec.was_opened opened read mid done o does back) =
+      let still : mid ≡ begins start = opens_input {I = I} h path (begins start) (Ok opened) mid o in
+      list_opened path opened done read is (subst (OpensInput (may_do h) path (begins start) (Ok opened)) still o) back
+      (subst (λ (s : FileSystem). DoesNames (over {F = F} h r w e) rows run path opened.device manifest from s status left to done read) still does)
+
+  comes : DoesTree (over {F = F} h r w e) rows run source manifest from (begins start) status left to after → Comes
+  comes (spec.of_folder path is does) = of_folder path is does
+  comes (spec.of_list path is does) = of_list path is does
+
+pub runs_begin_so : {I O F W E : Type 0} (r : Reader I) (w : Writer O) (rows : Writer W) (e : Writer E) → RunsBeginSo F r w rows e
+runs_begin_so {I} {O} {F} r w rows e h run source start manifest from status left to after does = comes F h r w rows e run source start manifest from status left to after does

@@ -1,0 +1,79 @@
+-- What a run over a tree comes to: it is refused, or the names of its tree are visited from such a state.
+use Rattle.std.specs.Prelude.{◌≡◌, ◌⊎◌, ℕ, List, false, Some, None, Ok, Err}
+use Rattle.dcm_devices.specs.declared.device.WriteFailed.{WriteFailed}
+use Rattle.dcm_devices.specs.Writing.{Writer}
+use Rattle.dcm_files.specs.Devices.{OpensInput}
+use Rattle.dcm_files.specs.declared.folders.Found.{Found}
+use Rattle.dcm_files.specs.declared.folders.FoundKind.TheVariants.{Folder}
+use Rattle.dcm_files.specs.declared.opened.Opened.{Opened}
+use Rattle.dcm_names.specs.NamedLines.{unopened_line}
+use Rattle.dcm_tree_words.specs.Trees.{Source, folder, list}
+use Rattle.dcm_cli.specs.Calls.{Reader, Reports}
+use Rattle.dcm_cli.specs.Status.{DEVICE}
+use Rattle.dcm_trees.specs.declared.beginning.Begun.{Begun}
+use Rattle.dcm_trees.specs.declared.beginning.Refusal.{Refusal}
+use Rattle.dcm_trees.specs.declared.run.TreeRun.{TreeRun}
+use Rattle.dcm_trees.specs.Run.{PutsFirstRow, EndsUnwritten}
+use Rattle.dcm_trees.specs.Tree.{OpensTree, VisitsAll, VisitsListed, Refuses, DoesTree}
+use Rattle.dcm_tree_laws.specs.FileSystem.{FileSystem, Host, Tree, begins, may_do, folders_do, place_of, at_path}
+use Rattle.dcm_tree_laws.specs.FileSystem.{SameBytes}
+use Rattle.dcm_tree_laws.specs.Laws.{over, part_path}
+
+-- a place is that of the folder of the outputs: nothing was there, and a folder is
+pub record IsMade {I O : Type 0} (h : Host I O) (output place : List ℕ) (start now : Tree) : Type 0 where
+  pub of_output : place ≡ place_of h output
+  pub nothing : start.at place ≡ None
+  pub made : Found
+  pub is : now.at place ≡ Some made
+  pub kind : made.kind ≡ Folder
+
+-- no more was done than to make that folder: at each other place is what was there, and each file has its bytes
+pub record OnlyOutput {I O : Type 0} (h : Host I O) (output : List ℕ) (start now : Tree) : Type 0 where
+  pub names : (place : List ℕ) → (now.at place ≡ start.at place) ⊎ IsMade h output place start now
+  pub bytes : SameBytes start now
+
+-- a run was begun: no file is being written, no removing of a file failed, the path of the part is the run's own, and
+-- nothing is there
+pub record Ready {I O : Type 0} (h : Host I O) (run : TreeRun) (start : Tree) (begun : Begun) (now : FileSystem)
+    : Type 0 where
+  pub written : now.written ≡ None
+  pub unremoved : now.unremoved ≡ false
+  pub part_is : begun.part.items ≡ part_path run
+  pub no_part : at_path h now.now (part_path run) ≡ None
+  pub only : OnlyOutput h run.output.now start now.now
+
+-- It is refused before its first name, and the manifest is as it was. Or the first row of the manifest could not be
+-- written. Or the names of the folder, or of the list, that it was asked for are visited, from a state in which it was
+-- begun, and behind the first row. What they leave is there at the end of the run: that the list is given back changes
+-- nothing
+pub data ComesTo {I O W E : Type 0} (F : Type 0) (h : Host I O) (reader : Reader I) (output : Writer O)
+    (rows : Writer W) (errors : Writer E) (run : TreeRun) (source : Source) (start : Tree) (manifest : W) (from : E)
+    (status : ℕ) (left : W) (to : E) (after : FileSystem) : Type 0 where
+  refused : (refusal : Refusal) → Refuses errors run refusal from status to → left ≡ manifest
+      → OnlyOutput h run.output.now start after.now
+      → ComesTo F h reader output rows errors run source start manifest from status left to after
+  no_list : (path : List ℕ) → source ≡ list path → Reports errors from to (unopened_line path) → status ≡ DEVICE
+      → left ≡ manifest → after ≡ begins start
+      → ComesTo F h reader output rows errors run source start manifest from status left to after
+  no_header : (failure : WriteFailed) → PutsFirstRow rows run.options.has_header manifest (Err failure) left
+      → EndsUnwritten errors run.options.counts from status to → OnlyOutput h run.output.now start after.now
+      → ComesTo F h reader output rows errors run source start manifest from status left to after
+  in_folder : (path : List ℕ) (opened : F) (begun : Begun) (headed : W) (mid : FileSystem) → source ≡ folder path
+      → OpensTree (folders_do {F = F} h) path (begins start) (Some opened) (begins start)
+      → PutsFirstRow rows run.options.has_header manifest (Ok _) headed → Ready h run start begun mid
+      → VisitsAll (over {F = F} h reader output errors) rows run path begun opened headed from mid status left to after
+      → ComesTo F h reader output rows errors run source start manifest from status left to after
+  in_list : (path : List ℕ) (opened : Opened I) (begun : Begun) (headed : W) (mid : FileSystem) (read : I)
+      → source ≡ list path → OpensInput (may_do h) path (begins start) (Ok opened) (begins start)
+      → PutsFirstRow rows run.options.has_header manifest (Ok _) headed → Ready h run start begun mid
+      → VisitsListed (over {F = F} h reader output errors) rows run path begun opened.device headed from mid status left
+      to after read
+      → ComesTo F h reader output rows errors run source start manifest from status left to after
+
+-- so it is of each run, whatever calls fail
+abbrev pub RunsBeginSo : {I O W E : Type 0} → (F : Type 0) → Reader I → Writer O → Writer W → Writer E → Type 0
+RunsBeginSo {I} {O} {W} {E} F reader output rows errors =
+    (h : Host I O) (run : TreeRun) (source : Source) (start : Tree) (manifest : W) (from : E) (status : ℕ) (left : W)
+    (to : E) (after : FileSystem)
+    → DoesTree (over {F = F} h reader output errors) rows run source manifest from (begins start) status left to after
+    → ComesTo F h reader output rows errors run source start manifest from status left to after
