@@ -1,5 +1,6 @@
 -- A run over a tree is refused, or its names are visited from a state in which it was begun.
 use Rattle.std.proofs.Common.{◌≡◌, ◌∙◌, refl, sym, ap, subst, inl, inr, ◌⊎◌, ℕ, List, Bool, true, false, Some, None, Result, Ok, Err}
+use Rattle.std.specs.Str.{IsUtf8}
 use Rattle.dcm_devices.specs.Writing.{Writer}
 use Rattle.dcm_files.specs.Devices.{OpensInput}
 use Rattle.dcm_files.specs.declared.opened.Opened.{Opened}
@@ -111,33 +112,40 @@ begins_only {I} {O} {F} h input is_list output name continues before r after (be
 
 -- ---- nothing is at the part
 
-nothing_there : {I O F : Type 0} (h : Host I O) (part : List ℕ) (before after : FileSystem) → ChecksPart (folders_do {F = F} h) part before (Ok _) after → at_path h after.now part ≡ None
+-- a path is text, and nothing is there
+record IsFree {I O : Type 0} (h : Host I O) (part : List ℕ) (now : Tree) : Type 0 where
+  text : IsUtf8 part
+  nothing : at_path h now part ≡ None
+
+nothing_there : {I O F : Type 0} (h : Host I O) (part : List ℕ) (before after : FileSystem) → ChecksPart (folders_do {F = F} h) part before (Ok _) after → IsFree h part after.now
 nothing_there h part before after (beginning.no_text t is same) = absurd (cc)
-nothing_there h part before after (beginning.nothing t call is) = ap (λ (s : FileSystem). at_path h s.now part) call.1 ∙ sym call.0
+nothing_there h part before after (beginning.nothing t call is) = record { text = t; nothing = ap (λ (s : FileSystem). at_path h s.now part) call.1 ∙ sym call.0 }
 nothing_there h part before after (beginning.is_there found t call is) = absurd (cc)
 nothing_there h part before after (beginning.not_seen e t call is) = absurd (cc)
 
 begun_free : {I O F : Type 0} (h : Host I O) (input : List ℕ) (is_list : Bool) (output part : List ℕ) (continues : Bool) (before : FileSystem) (begun : Begun) (after : FileSystem) → Begins (folders_do {F = F} h) input is_list output part continues before (Ok begun) after
-    → at_path h after.now begun.part.items ≡ None
+    → IsFree h begun.part.items after.now
 begun_free h input is_list output part continues before begun after (beginning.no_output refusal has is) = absurd (cc)
 begun_free h input is_list output part continues before begun after (beginning.no_part number refusal has p is) = absurd (cc)
 begun_free h input is_list output part continues before begun after (beginning.has_part number path refusal mid has p c is) = absurd (cc)
 begun_free h input is_list output part continues before begun after (beginning.in_use number path refusal mid checked has p c u is) = absurd (cc)
 begun_free {I} {O} {F} h input is_list output part continues before begun after (beginning.begun number path mid checked has p c u is) =
-    ap (λ (b : Begun). at_path h after.now b.part.items) (sym (same_ok (Ok begun) begun (record { number = number; part = path }) refl is))
-    ∙ ap (λ (s : FileSystem). at_path h s.now path.items) (checks_use (folders_do {F = F} h) (are_quiet h) output continues checked (Ok _) after u)
-    ∙ nothing_there {F = F} h path.items mid checked c
+    subst (λ (b : Begun). IsFree h b.part.items after.now) (same_ok (Ok begun) begun (record { number = number; part = path }) refl is)
+    (subst (λ (s : FileSystem). IsFree h path.items s.now) (sym (checks_use (folders_do {F = F} h) (are_quiet h) output continues checked (Ok _) after u)) (nothing_there {F = F} h path.items mid checked c))
 
 ready : {I O F : Type 0} (h : Host I O) (run : TreeRun) (start : Tree) (input : List ℕ) (is_list : Bool) (begun : Begun) (mid : FileSystem) → Begins (folders_do {F = F} h) input is_list run.output.now (part_of run) run.options.continues (begins start) (Ok begun) mid
     → Ready h run start begun mid
 ready {I} {O} {F} h run start input is_list begun mid b =
     let only : Only h run.output.now (begins start) mid = begins_only {F = F} h input is_list run.output.now (part_of run) run.options.continues (begins start) (Ok begun) mid b in
     let part : begun.part.items ≡ part_path run = begun_part (folders_do {F = F} h) input is_list run.output.now (part_of run) run.options.continues (begins start) begun mid b in
+    let free : IsFree h (part_path run) mid.now =
+    subst (λ (p : List ℕ). IsFree h p mid.now) part (begun_free {F = F} h input is_list run.output.now (part_of run) run.options.continues (begins start) begun mid b) in
     record {
       written = only.written;
       unremoved = only.unremoved;
       part_is = part;
-      no_part = ap (λ (p : List ℕ). at_path h mid.now p) (sym part) ∙ begun_free {F = F} h input is_list run.output.now (part_of run) run.options.continues (begins start) begun mid b;
+      text = free.text;
+      no_part = free.nothing;
       only = only.only;
     }
 

@@ -1,5 +1,6 @@
 -- What a run over a tree comes to: it is refused, or the names of its tree are visited from such a state.
 use Rattle.std.specs.Prelude.{◌≡◌, ◌⊎◌, ℕ, List, false, Some, None, Ok, Err}
+use Rattle.std.specs.Str.{IsUtf8}
 use Rattle.dcm_devices.specs.declared.device.WriteFailed.{WriteFailed}
 use Rattle.dcm_devices.specs.Writing.{Writer}
 use Rattle.dcm_files.specs.Devices.{OpensInput}
@@ -32,13 +33,14 @@ pub record OnlyOutput {I O : Type 0} (h : Host I O) (output : List ℕ) (start n
   pub names : (place : List ℕ) → (now.at place ≡ start.at place) ⊎ IsMade h output place start now
   pub bytes : SameBytes start now
 
--- a run was begun: no file is being written, no removing of a file failed, the path of the part is the run's own, and
--- nothing is there
+-- a run was begun: no file is being written, no removing of a file failed, the path of the part is the run's own, it is
+-- text, and nothing is there
 pub record Ready {I O : Type 0} (h : Host I O) (run : TreeRun) (start : Tree) (begun : Begun) (now : FileSystem)
     : Type 0 where
   pub written : now.written ≡ None
   pub unremoved : now.unremoved ≡ false
   pub part_is : begun.part.items ≡ part_path run
+  pub text : IsUtf8 (part_path run)
   pub no_part : at_path h now.now (part_path run) ≡ None
   pub only : OnlyOutput h run.output.now start now.now
 
