@@ -19,6 +19,7 @@ use Rattle.dcm_trees.specs.Tree.{OpensTree, VisitsAll, VisitsListed, Refuses, Do
 use Rattle.dcm_tree_laws.specs.FileSystem.{FileSystem, Host, Tree, begins, may_do, folders_do, place_of, at_path}
 use Rattle.dcm_tree_laws.specs.FileSystem.{SameBytes}
 use Rattle.dcm_tree_laws.specs.Laws.{over, part_path}
+use Rattle.dcm_tree_laws.specs.Single.{as_held}
 
 -- a place is that of the folder of the outputs: nothing was there, and a folder is
 pub record IsMade {I O : Type 0} (h : Host I O) (output place : List ℕ) (start now : Tree) : Type 0 where
@@ -79,3 +80,12 @@ RunsBeginSo {I} {O} {W} {E} F reader output rows errors =
     (to : E) (after : FileSystem)
     → DoesTree (over {F = F} h reader output errors) rows run source manifest from (begins start) status left to after
     → ComesTo F h reader output rows errors run source start manifest from status left to after
+
+-- and of one whose readers give what the files hold that were opened
+abbrev pub RunsOfHeldBeginSo : {I O W E : Type 0} → (F : Type 0) → Reader I → Writer O → Writer W → Writer E → Type 0
+RunsOfHeldBeginSo {I} {O} {W} {E} F reader output rows errors =
+    (h : Host I O) (run : TreeRun) (source : Source) (start : Tree) (manifest : W) (from : E) (status : ℕ) (left : W)
+    (to : E) (after : FileSystem)
+    → DoesTree (over {F = F} h (as_held h reader) output errors) rows run source manifest from (begins start) status left
+    to after
+    → ComesTo F h (as_held h reader) output rows errors run source start manifest from status left to after

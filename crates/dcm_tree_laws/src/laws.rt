@@ -6,7 +6,7 @@ ghost use Rattle.dcm_tree_laws.specs.Behind.{RowsAreToldBehind, RowsAreToldBehin
 ghost use Rattle.dcm_tree_laws.specs.Copied.{CopiesAreThere, CopiesAreThereOfList};
 ghost use Rattle.dcm_tree_laws.specs.Copied.{SecondIsAsItWas, SecondIsAsItWasOfList};
 ghost use Rattle.dcm_tree_laws.specs.Copies.{CopyIsLeft, UnnamedIsLeft, AgainIsAsItWas, AgainIsAsItWasOfList};
-ghost use Rattle.dcm_tree_laws.specs.Course.{RunsBeginSo};
+ghost use Rattle.dcm_tree_laws.specs.Course.{RunsBeginSo, RunsOfHeldBeginSo};
 ghost use Rattle.dcm_tree_laws.specs.Determined.{OneEnd, EndIsAnswer, OneInstance};
 ghost use Rattle.dcm_tree_laws.specs.Distinct.{OutputsAreDistinct, OutputsAreDistinctOfList};
 ghost use Rattle.dcm_tree_laws.specs.Flows.{NoNameFlows, SameBecomes};
@@ -55,7 +55,8 @@ pub fn never_half<I: DeviceIn, O: DeviceOut, W: DeviceOut, E: DeviceOut, F>()
 /// that is refused, or whose first row cannot be written, tells that and does no more either; where it is refused its
 /// manifest is as it was. So it is whatever calls fail.
 pub fn runs_begin_so<I: DeviceIn, O: DeviceOut, W: DeviceOut, E: DeviceOut, F>()
-    ensures { RunsBeginSo F I.DeviceIn O.DeviceOut W.DeviceOut E.DeviceOut }
+    ensures run { RunsBeginSo F I.DeviceIn O.DeviceOut W.DeviceOut E.DeviceOut }
+    ensures held { RunsOfHeldBeginSo F I.DeviceIn O.DeviceOut W.DeviceOut E.DeviceOut }
 {}
 
 /// The manifest of a tree has one row for each name. These are the names of a run's share that it visits, in their
