@@ -1,13 +1,12 @@
 -- Each output of a run is whole, of the file of a name that was read in it.
 use Rattle.std.proofs.Common.{refl, sym, ap, ℕ, List}
 use Rattle.dcm_devices.specs.Writing.{Writer}
-use Rattle.dcm_files.specs.declared.folders.Links.{Links}
 use Rattle.dcm_walk.specs.Visits.{Named}
 use Rattle.dcm_tree_words.specs.Trees.{Source}
 use Rattle.dcm_cli.specs.Calls.{Reader}
 use Rattle.dcm_trees.specs.Task.{Task, task_of}
 use Rattle.dcm_tree_laws.specs.FileSystem.{FileSystem, Tree, Host, number_of}
-use Rattle.dcm_tree_laws.specs.Halves.{IsOfSource, IsAtName, IsOutputOf, IsAnswerOf, NeverHalf, NeverHalfOfBytes}
+use Rattle.dcm_tree_laws.specs.Halves.{IsOfSource, links_of, IsAtName, IsOutputOf, IsAnswerOf, NeverHalf, NeverHalfOfBytes}
 use Rattle.dcm_tree_laws.specs.Laws.{part_path}
 use Rattle.dcm_tree_laws.specs.Single.{as_held}
 use Rattle.dcm_tree_laws.specs.Stays.{IsOfOutput}
@@ -20,17 +19,17 @@ use Rattle.dcm_tree_laws.proofs.SinglesBy.{answered, opens_holds}
 
 -- ---- the file of a name
 
-at_name : {I O : Type 0} (h : Host I O) (source : Source) (links : Links) (part output : List ℕ) (start : Tree) (n : Named) (mode : ℕ) (s : FileSystem) → StaysIn h part (IsOfOutput output) start s.now → SawFile h links (IsOfSource source) s n mode → IsAtName h source part output start n s
-at_name h source links part output start n mode s stays saw = record { of_source = saw.of_source; leads = saw.leads; links = links; file = saw.file; is = saw.is; kind = saw.kind; stays = stays_so h part output start s.now stays }
+at_name : {I O : Type 0} (h : Host I O) (source : Source) (part output : List ℕ) (start : Tree) (n : Named) (mode : ℕ) (s : FileSystem) → StaysIn h part (IsOfOutput output) start s.now → SawFile h (links_of source) (IsOfSource source) s n mode → IsAtName h source part output start n s
+at_name h source part output start n mode s stays saw = record { of_source = saw.of_source; leads = saw.leads; file = saw.file; is = saw.is; kind = saw.kind; stays = stays_so h part output start s.now stays }
 
 -- ---- its output
 
 pub output_right : {I O : Type 0} (h : Host I O) (r : Reader I) (w : Writer O) (source : Source) (task : Task) (part output : List ℕ) (start : Tree) → RightOf h source (IsOutputOf h r w source task part output start) r w task part output start
 unfolding at_name
-output_right h r w source task part output start = λ links n what mode s stays saw is job mid f input opened o left made written ending new finished done. record {
+output_right h r w source task part output start = λ n what mode s stays saw is job mid f input opened o left made written ending new finished done. record {
   name = n;
   state = s;
-  read = at_name h source links part output start n mode s stays (saw mode is);
+  read = at_name h source part output start n mode s stays (saw mode is);
   mode_is = ap h.masked (sym (saw mode is).mode_is);
   job = job;
   mid = mid;
@@ -50,10 +49,10 @@ output_right h r w source task part output start = λ links n what mode s stays 
 
 answer_right : {I O : Type 0} (h : Host I O) (r : Reader I) (w : Writer O) → GivesAll h r w → (source : Source) (task : Task) (part output : List ℕ) (start : Tree) → RightOf h source (IsAnswerOf h source task part output start) r w task part output start
 unfolding at_name
-answer_right h r w all source task part output start = λ links n what mode s stays saw is job mid f input opened o left made written ending new finished done. record {
+answer_right h r w all source task part output start = λ n what mode s stays saw is job mid f input opened o left made written ending new finished done. record {
   name = n;
   state = s;
-  read = at_name h source links part output start n mode s stays (saw mode is);
+  read = at_name h source part output start n mode s stays (saw mode is);
   mode_is = ap h.masked (sym (saw mode is).mode_is);
   answered = λ g at kind. answered h r w all task n.path s mid job input opened left made written ending f o new finished done (s.now.bytes (number_of g)) (λ i t opens. opens_holds h n.path s i t opens g at kind);
 }

@@ -50,6 +50,6 @@ lines_do d quiet R closed visits visit gets output from before input r to after 
     listed_does R closed gets (DoesLine d visits output) (line_does d quiet R closed visits visit output) from before input to after given at was_over names l
 lines_do d quiet R closed visits visit gets output from before input r to after left (not_read given was_over names count at l a is) =
     listed_does R closed gets (DoesLine d visits output) (line_does d quiet R closed visits visit output) from before input to after given at was_over names l
-lines_do d quiet R closed visits visit gets output from before input r to after left (was_stopped given more is_over names name e mid between at l calls line is) =
+lines_do d quiet R closed visits visit gets output from before input r to after left (was_stopped given more is_over names rest name e mid between at l calls all line is) =
     closed.then from mid to before between after (listed_does R closed gets (DoesLine d visits output) (line_does d quiet R closed visits visit output) from before input mid between given at false names l)
     (line_does d quiet R closed visits visit output (take NAME_LIMIT name) mid between (Err e) to after line)

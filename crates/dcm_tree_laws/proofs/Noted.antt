@@ -112,7 +112,7 @@ list_noted d visits gets output from before input r to after left (lists.all_don
 list_noted d visits gets output from before input r to after left (lists.not_read given was_over names count at l a is) notes =
     let x = lines_listed_noted gets (DoesLine d visits output) (DoesLine d (noted visits) output) (line_noted d visits output) from before input to after given at was_over names l notes in
     (x.0, lists.not_read given was_over names count at x.1 a is)
-list_noted d visits gets output from before input r to after left (lists.was_stopped given bytes is_over names name e mid between at l calls line is) notes =
+list_noted d visits gets output from before input r to after left (lists.was_stopped given bytes is_over names rest name e mid between at l calls all line is) notes =
     let x = lines_listed_noted gets (DoesLine d visits output) (DoesLine d (noted visits) output) (line_noted d visits output) from before input mid between given at false names l notes in
     let y = line_noted d visits output (take NAME_LIMIT name) mid between (Err e) to after line x.0 in
-    (y.0, lists.was_stopped given bytes is_over names name e (mid, x.0) between at x.1 calls y.1 is)
+    (y.0, lists.was_stopped given bytes is_over names rest name e (mid, x.0) between at x.1 calls all y.1 is)

@@ -103,10 +103,10 @@ others_stay {I} {O} {F} r w e h given t start from status to after meant obeys =
 
 -- the output of a file by the task that words mean
 by_words : {I O : Type 0} (h : Host I O) (r : Reader I) (w : Writer O) (t : WordsTree) (start : Tree) → RightByWords h (IsOutputByWords h r w t start) r w t start
-by_words h r w t start task is = λ links n what mode s stays saw of_file job mid f input opened o left made written ending new finished done. record {
+by_words h r w t start task is = λ n what mode s stays saw of_file job mid f input opened o left made written ending new finished done. record {
   task = task;
   is_task = is;
-  it = output_right h r w t.source task (part_of_tree t) t.plan.output start links n what mode s stays saw of_file job mid f input opened o left made written ending new finished done;
+  it = output_right h r w t.source task (part_of_tree t) t.plan.output start n what mode s stays saw of_file job mid f input opened o left made written ending new finished done;
 }
 
 pub never_half : {I O F E : Type 0} (r : Reader I) (w : Writer O) (e : Writer E) → NeverHalfByWords F r w e

@@ -31,7 +31,7 @@ use Rattle.dcm_trees.specs.Tree.{OpensFolder, OpensTree, VisitsAll, VisitsFolder
 use Rattle.dcm_trees.specs.Work as work
 use Rattle.dcm_trees.specs.Work.{Progress, progress, VisitsName, visits_of}
 use Rattle.dcm_tree_laws.specs.FileSystem.{FileSystem, Host, Tree, begins, may_do, folders_do}
-use Rattle.dcm_tree_laws.specs.Halves.{IsOfSource, in_folder, in_list}
+use Rattle.dcm_tree_laws.specs.Halves.{IsOfSource, in_folder, in_list, links_of}
 use Rattle.dcm_tree_laws.specs.Laws.{IsOutput, over, part_path}
 use Rattle.dcm_tree_laws.specs.Stays.{IsOfOutput, itself}
 use Rattle.dcm_tree_laws.proofs.Beginnings.{begins_by}
@@ -80,13 +80,15 @@ abbrev pub RightIn : {I O : Type 0} → Host I O → Links → (In : Named → T
 RightIn h links In IsWhole r w task part output start =
     (n : Named) (what : What) (mode : ℕ) (s : FileSystem) → StaysIn h part (IsOfOutput output) start s.now → Saw h links In s n what → what ≡ File mode → FileGives h IsWhole r w task n.path mode s
 
--- be they found in a folder or in a list
+-- be they found in a folder or in a list, each with its links
 abbrev pub RightOf : {I O : Type 0} → Host I O → Source → (IsWhole : ℕ → List ℕ → Type 0) → Reader I → Writer O → (task : Task) → (part output : List ℕ) → (start : Tree) → Type 0
-RightOf h source IsWhole r w task part output start = (links : Links) → RightIn h links (IsOfSource source) IsWhole r w task part output start
+RightOf h source IsWhole r w task part output start = RightIn h (links_of source) (IsOfSource source) IsWhole r w task part output start
 
-right_in : {I O : Type 0} (h : Host I O) (source : Source) (links : Links) (In : Named → Type 0) → ((n : Named) → In n → IsOfSource source n) → (IsWhole : ℕ → List ℕ → Type 0) (r : Reader I) (w : Writer O) (task : Task) (part output : List ℕ) (start : Tree)
-    → RightIn h links (IsOfSource source) IsWhole r w task part output start → RightIn h links In IsWhole r w task part output start
-right_in h source links In of_source IsWhole r w task part output start right = λ n what mode s stays saw is. right n what mode s stays (λ m e. saw_in h links In (IsOfSource source) s n m (of_source n) (saw m e)) is
+right_in : {I O : Type 0} (h : Host I O) (source : Source) (links : Links) (In : Named → Type 0) → links_of source ≡ links → ((n : Named) → In n → IsOfSource source n) → (IsWhole : ℕ → List ℕ → Type 0) (r : Reader I) (w : Writer O) (task : Task) (part output : List ℕ) (start : Tree)
+    → RightOf h source IsWhole r w task part output start → RightIn h links In IsWhole r w task part output start
+right_in h source links In links_is of_source IsWhole r w task part output start right =
+    let there : RightIn h links (IsOfSource source) IsWhole r w task part output start = subst (λ (l : Links). RightIn h l (IsOfSource source) IsWhole r w task part output start) links_is right in
+    λ n what mode s stays saw is. there n what mode s stays (λ m e. saw_in h links In (IsOfSource source) s n m (of_source n) (saw m e)) is
 
 -- so the steps go on
 abbrev pub GoOn : {I O : Type 0} → Host I O → Links → (In : Named → Type 0) → (IsWhole : ℕ → List ℕ → Type 0) → Reader I → Writer O → (task : Task) → (part output : List ℕ) → (start : Tree) → (before after : FileSystem) → Type 0
@@ -236,10 +238,10 @@ module _ {I O F W E : Type 0} (h : Host I O) (IsWhole : ℕ → List ℕ → Typ
   pub does_tree : (source : Source) (manifest : W) (from : E) (before : FileSystem) (status : ℕ) (left : W) (to : E) (after : FileSystem) → DoesTree (over {F = F} h r w e) rows run source manifest from before status left to after
       → RightOf h source IsWhole r w (task_of run.task) (part_path run) run.output.now start → RunSteps h IsWhole (part_path run) run.output.now start before → RunSteps h IsWhole (part_path run) run.output.now start after
   does_tree source manifest from before status left to after (spec.of_folder path is does) right steps =
-      does_folder {F = F} h IsWhole r w e rows start run path manifest from before status left to after does (part_is_within run.output.now (part_path run) run.options.part.number refl) (right_in h source Kept (IsUnder path) (λ n under. in_folder path under.0 is under.1) IsWhole r w (task_of run.task) (part_path run) run.output.now start (right Kept)) steps
+      does_folder {F = F} h IsWhole r w e rows start run path manifest from before status left to after does (part_is_within run.output.now (part_path run) run.options.part.number refl) (right_in h source Kept (IsUnder path) (ap links_of is) (λ n under. in_folder path under.0 is under.1) IsWhole r w (task_of run.task) (part_path run) run.output.now start right) steps
   does_tree source manifest from before status left to after (spec.of_list path is does) right steps =
-      does_list path manifest from before status left to after does (part_is_within run.output.now (part_path run) run.options.part.number refl) (right_in h source Followed IsLine (λ n line. in_list path is line) IsWhole r w (task_of run.task) (part_path run) run.output.now start (right Followed)) steps
+      does_list path manifest from before status left to after does (part_is_within run.output.now (part_path run) run.options.part.number refl) (right_in h source Followed IsLine (ap links_of is) (λ n line. in_list path is line) IsWhole r w (task_of run.task) (part_path run) run.output.now start right) steps
 
 -- any output of a job that was done is such a one
 pub always_right : {I O : Type 0} (h : Host I O) (r : Reader I) (w : Writer O) (source : Source) (task : Task) (part output : List ℕ) (start : Tree) → RightOf h source (IsOutput h r w) r w task part output start
-always_right h r w source task part output start = λ links n what mode s stays saw is. always_gives h r w task n.path mode s
+always_right h r w source task part output start = λ n what mode s stays saw is. always_gives h r w task n.path mode s

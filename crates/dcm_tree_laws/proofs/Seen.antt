@@ -201,5 +201,5 @@ module _ {I O V : Type 0} (F : Type 0) (h : Host I O) (visits : Visits V FileSys
       → WalksList (folders_do {F = F} h) visits gets output from before input r to after left → WalksList (folders_do {F = F} h) (seen h Followed IsLine visits) gets output from before input r to after left
   list_seen gets output from before input r to after left (lists.all_done given was_over names at l a is) = lists.all_done given was_over names at (lines_seen gets output from before input to after given at was_over names l) a is
   list_seen gets output from before input r to after left (lists.not_read given was_over names count at l a is) = lists.not_read given was_over names count at (lines_seen gets output from before input to after given at was_over names l) a is
-  list_seen gets output from before input r to after left (lists.was_stopped given bytes is_over names name e mid between at l calls line is) =
-      lists.was_stopped given bytes is_over names name e mid between at (lines_seen gets output from before input mid between given at false names l) calls (line_seen output _ mid between (Err e) to after line) is
+  list_seen gets output from before input r to after left (lists.was_stopped given bytes is_over names rest name e mid between at l calls all line is) =
+      lists.was_stopped given bytes is_over names rest name e mid between at (lines_seen gets output from before input mid between given at false names l) calls all (line_seen output _ mid between (Err e) to after line) is

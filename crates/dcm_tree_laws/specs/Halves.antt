@@ -5,7 +5,7 @@ use Rattle.dcm_devices.specs.Writing.{Writer}
 use Rattle.dcm_files.specs.declared.folders.Found.{Found}
 use Rattle.dcm_files.specs.declared.folders.FoundKind.TheVariants as kinds
 use Rattle.dcm_files.specs.declared.folders.Links.{Links}
-use Rattle.dcm_files.specs.declared.folders.Links.TheVariants.{Followed}
+use Rattle.dcm_files.specs.declared.folders.Links.TheVariants.{Kept, Followed}
 use Rattle.dcm_walk.specs.List.{named_line}
 use Rattle.dcm_walk.specs.Names.{below, leads_below}
 use Rattle.dcm_walk.specs.Visits.{Named}
@@ -33,15 +33,19 @@ pub data IsOfSource (source : Source) (n : Named) : Type 0 where
   in_folder : (path relative : List ℕ) → source ≡ folder path → n.path ≡ below path relative → IsOfSource source n
   in_list : (path : List ℕ) → source ≡ list path → n ≡ named_line n.name → IsOfSource source n
 
--- at a state of a run a regular file is at the path of such a name: links followed where a list names it, and not where
--- it is in a folder. What was at the start is there, so that the file is one of the start, or one in OUTPUT
+-- links are followed where a list names a file, and not where it is in a folder
+abbrev pub links_of : Source → Links
+links_of (folder path) = Kept
+links_of (list path) = Followed
+
+-- at a state of a run a regular file is at the path of such a name. What was at the start is there, so that the file is
+-- one of the start, or one in OUTPUT
 pub record IsAtName {I O : Type 0} (h : Host I O) (source : Source) (part output : List ℕ) (start : Tree) (n : Named)
     (s : FileSystem) : Type 0 where
   pub of_source : IsOfSource source n
   pub leads : leads_below n.relative ≡ true
-  pub links : Links
   pub file : Found
-  pub is : s.now.at (h.leads links n.path) ≡ Some file
+  pub is : s.now.at (h.leads (links_of source) n.path) ≡ Some file
   pub kind : file.kind ≡ kinds.File
   pub stays : Stays h part output start s.now
 

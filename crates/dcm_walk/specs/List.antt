@@ -8,7 +8,7 @@ use Rattle.dcm_files.specs.declared.folders.Found.{Found}
 use Rattle.dcm_files.specs.declared.folders.FoundKind.{FoundKind}
 use Rattle.dcm_files.specs.declared.folders.FoundKind.TheVariants.{File}
 use Rattle.dcm_files.specs.declared.folders.Links.TheVariants.{Followed}
-use Rattle.dcm_names.specs.Names.{NAME_LIMIT}
+use Rattle.dcm_names.specs.Names.{NAME_LIMIT, names_of}
 use Rattle.dcm_names.specs.Reader.{Calls, AnswersEnd, AnswersUnread}
 use Rattle.dcm_walk.specs.declared.folder.FolderNumber.{FolderNumber}
 use Rattle.dcm_walk.specs.declared.list.ListEnd.{ListEnd}
@@ -113,8 +113,8 @@ pub data Listed {V S I : Type 0} (gets : I → Option (List ℕ) → I → Type 
       → Line (take NAME_LIMIT name) mid between (Ok _) to after → given ≡ earlier ++ more
       → names ≡ others ++ name ∷ [] → Listed gets Line from before input to after given left is_over names
 
--- all names of a list that was read to its end were done; or its reader failed, or it has too many bytes; or one of its
--- names stopped the walk
+-- all names of a list that was read to its end were done; or its reader failed, or it has too many bytes; or the next
+-- of its names stopped the walk
 pub data DoesLines {V S I : Type 0} (gets : I → Option (List ℕ) → I → Type 0) (Line : List ℕ → Step V S) (from : V)
     (before : S) (input : I) (r : Result ListEnd Stopped) (to : V) (after : S) (left : I) : Type 0 where
   all_done : (given : List ℕ) (was_over : Bool) (names : List (List ℕ)) (at : I)
@@ -124,9 +124,10 @@ pub data DoesLines {V S I : Type 0} (gets : I → Option (List ℕ) → I → Ty
       → Listed gets Line from before input to after given at was_over names
       → AnswersUnread gets was_over at left given names count → r ≡ Ok (Unread count)
       → DoesLines gets Line from before input r to after left
-  was_stopped : (given more : List ℕ) (is_over : Bool) (names : List (List ℕ)) (name : List ℕ) (e : Stopped) (mid : V)
-      (between : S) (at : I) → Listed gets Line from before input mid between given at false names
-      → Calls gets is_over at more left → Line (take NAME_LIMIT name) mid between (Err e) to after → r ≡ Err e
+  was_stopped : (given more : List ℕ) (is_over : Bool) (names others : List (List ℕ)) (name : List ℕ) (e : Stopped)
+      (mid : V) (between : S) (at : I) → Listed gets Line from before input mid between given at false names
+      → Calls gets is_over at more left → names_of (given ++ more) is_over ≡ names ++ name ∷ others
+      → Line (take NAME_LIMIT name) mid between (Err e) to after → r ≡ Err e
       → DoesLines gets Line from before input r to after left
 
 -- the walk of a list that is open
