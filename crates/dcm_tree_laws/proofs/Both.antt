@@ -18,7 +18,7 @@ pub record BothIn {I O : Type 0} (h : Host I O) (IsWhole : ℕ → List ℕ → 
 abbrev pub Both : {I O : Type 0} → Host I O → (IsWhole : ℕ → List ℕ → Type 0) → (part output : List ℕ) → (start : Tree) → (at : Phase) → FileSystem → Type 0
 Both h IsWhole part output start at s = BothIn h IsWhole part (IsNear output) start at s
 
-each : {I O : Type 0} (h : Host I O) (IsWhole : ℕ → List ℕ → Type 0) (part : List ℕ) (Of : List ℕ → Type 0) (start : Tree) → Of part → (at : Phase) (before : FileSystem) (then : Phase) (after : FileSystem)
+pub each : {I O : Type 0} (h : Host I O) (IsWhole : ℕ → List ℕ → Type 0) (part : List ℕ) (Of : List ℕ → Type 0) (start : Tree) → Of part → (at : Phase) (before : FileSystem) (then : Phase) (after : FileSystem)
     → StepIn h IsWhole part Of at before then after → BothIn h IsWhole part Of start at before → BothIn h IsWhole part Of start then after
 each h IsWhole part Of start of_output at before then after step both = record {
   keeps = each_keeps h IsWhole part Of start of_output at before then after (λ rest other. no_folder h IsWhole part start at before both.holds rest other) step both.keeps;

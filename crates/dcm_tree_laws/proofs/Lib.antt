@@ -2,6 +2,7 @@ pub mod Steps
 pub mod StaysBy
 pub mod WholeBy
 pub mod Both
+pub mod SoFar
 pub mod Quiet
 pub mod Walks
 pub mod Lists

@@ -1,5 +1,4 @@
 -- The laws of a run over a tree.
-use Rattle.std.specs.Prelude.{false}
 use Rattle.std.proofs.Common.{◌≡◌, refl, inl, inr, ◌⊎◌, ℕ, List, [], ◌∷◌}
 use Rattle.dcm_devices.specs.Writing.{Writer}
 use Rattle.dcm_cli.specs.Calls.{Reader}
@@ -11,10 +10,11 @@ use Rattle.dcm_tree_laws.specs.FileSystem.{FileSystem, Host, Tree, begins}
 use Rattle.dcm_tree_laws.specs.Laws.{IsOutput, OthersStay, over, part_path}
 use Rattle.dcm_tree_laws.specs.Stays.{IsOfOutput, LeadsThere, Stays, OfEach, Always}
 use Rattle.dcm_tree_laws.proofs.Below.{part_is_within}
-use Rattle.dcm_tree_laws.proofs.Both.{BothIn, after_steps}
+use Rattle.dcm_tree_laws.proofs.Both.{BothIn}
 use Rattle.dcm_tree_laws.proofs.Near.{LeadsIn, StaysIn}
-use Rattle.dcm_tree_laws.proofs.Runs.{RightOf, does_tree, always_right}
-use Rattle.dcm_tree_laws.proofs.Steps.{idle, quiet}
+use Rattle.dcm_tree_laws.proofs.Runs.{RunCame, RightOf, does_tree, output_grows, always_right}
+use Rattle.dcm_tree_laws.proofs.SoFar.{Grows, at_first}
+use Rattle.dcm_tree_laws.proofs.Steps.{idle}
 
 -- ---- what stays
 
@@ -35,14 +35,14 @@ always_so h IsWhole part output start s both = (stays_so h part output start s.n
 -- ---- a run
 
 -- what holds after it, where its files give such outputs
-pub after_run : {I O F W E : Type 0} (h : Host I O) (IsWhole : ℕ → List ℕ → Type 0) (r : Reader I) (w : Writer O) (e : Writer E) (rows : Writer W) (run : TreeRun) (source : Source) (start : Tree) (manifest : W) (from : E) (status : ℕ) (left : W) (to : E) (after : FileSystem)
+pub after_run : {I O F W E : Type 0} (h : Host I O) (IsWhole : List Tree → ℕ → List ℕ → Type 0) → Grows IsWhole → (r : Reader I) (w : Writer O) (e : Writer E) (rows : Writer W) (run : TreeRun) (source : Source) (start : Tree) (manifest : W) (from : E) (status : ℕ) (left : W) (to : E) (after : FileSystem)
     → RightOf h source IsWhole r w (task_of run.task) (part_path run) run.output.now start → DoesTree (over {F = F} h r w e) rows run source manifest from (begins start) status left to after
-    → BothIn h IsWhole (part_path run) (IsOfOutput run.output.now) start idle after
-after_run {I} {O} {F} h IsWhole r w e rows run source start manifest from status left to after right does =
-    after_steps h IsWhole (part_path run) (IsOfOutput run.output.now) start false (part_is_within run.output.now (part_path run) run.options.part.number refl) idle after
-    (does_tree {F = F} h IsWhole r w e rows start run source manifest from (begins start) status left to after does right (quiet refl))
+    → RunCame h IsWhole (part_path run) run.output.now start after
+after_run {I} {O} {F} h IsWhole grows r w e rows run source start manifest from status left to after right does =
+    does_tree {F = F} h IsWhole grows r w e rows start run source manifest from (begins start) status left to after does right
+    (at_first h IsWhole grows (part_path run) (IsOfOutput run.output.now) start (part_is_within run.output.now (part_path run) run.options.part.number refl))
 
 pub others_stay : {I O F W E : Type 0} (r : Reader I) (w : Writer O) (rows : Writer W) (e : Writer E) → OthersStay F r w rows e
 others_stay {I} {O} {F} r w rows e h run source start manifest from status left to after does =
     always_so h (IsOutput h r w) (part_path run) run.output.now start after
-    (after_run {F = F} h (IsOutput h r w) r w e rows run source start manifest from status left to after (always_right h r w source (task_of run.task) (part_path run) run.output.now start) does)
+    (after_run {F = F} h (λ trees. IsOutput h r w) (output_grows h r w) r w e rows run source start manifest from status left to after (always_right h r w source (task_of run.task) (part_path run) run.output.now start) does).both

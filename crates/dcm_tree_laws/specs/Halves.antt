@@ -1,5 +1,5 @@
 -- No output of a run over a tree is half under its name: each is whole, of the file of a name that was read in the run.
-use Rattle.std.specs.Prelude.{◌≡◌, ℕ, List, [], Bool, true, Some, Ok}
+use Rattle.std.specs.Prelude.{◌≡◌, ℕ, List, [], ◌∷◌, ◌++◌, Bool, true, Some, None, Ok}
 use Rattle.dcm_deid.specs.declared.fate.Options.{Options}
 use Rattle.dcm_devices.specs.Writing.{Writer}
 use Rattle.dcm_files.specs.declared.folders.Found.{Found}
@@ -23,8 +23,8 @@ use Rattle.dcm_trees.specs.Tree.{DoesTree}
 use Rattle.dcm_tree_laws.specs.FileSystem.{FileSystem, Host, Tree, number_of, begins, may_do}
 use Rattle.dcm_tree_laws.specs.Laws.{over, part_path, part_of_tree}
 use Rattle.dcm_tree_laws.specs.Single.{IsAnswered, TellsAll, as_held}
-use Rattle.dcm_tree_laws.specs.Stays.{Stays, Always}
-use Rattle.dcm_tree_laws.specs.Whole.{NoneHalf}
+use Rattle.dcm_tree_laws.specs.Stays.{Stays, AlwaysSoFar}
+use Rattle.dcm_tree_laws.specs.Whole.{NoneHalfSoFar}
 
 -- ---- a file that is read
 
@@ -38,10 +38,17 @@ abbrev pub links_of : Source → Links
 links_of (folder path) = Kept
 links_of (list path) = Followed
 
--- at a state of a run a regular file is at the path of such a name. What was at the start is there, so that the file is
--- one of the start, or one in OUTPUT
-pub record IsAtName {I O : Type 0} (h : Host I O) (source : Source) (part output : List ℕ) (start : Tree) (n : Named)
-    (s : FileSystem) : Type 0 where
+-- a run whose trees were these, the latest first, had this state: they are those up to it, and some later ones
+pub record WasState (trees : List Tree) (s : FileSystem) : Type 0 where
+  pub later : List Tree
+  pub trees_are : trees ≡ later ++ s.now ∷ s.earlier
+
+-- at such a state, while no file is being written, a regular file is at the path of such a name. What was at the start
+-- is there, so that the file is one of the start, or one in OUTPUT
+pub record IsAtName {I O : Type 0} (h : Host I O) (source : Source) (part output : List ℕ) (start : Tree)
+    (earlier : List Tree) (n : Named) (s : FileSystem) : Type 0 where
+  pub was_state : WasState earlier s
+  pub at_rest : s.written ≡ None
   pub of_source : IsOfSource source n
   pub leads : leads_below n.relative ≡ true
   pub file : Found
@@ -54,10 +61,11 @@ pub record IsAtName {I O : Type 0} (h : Host I O) (source : Source) (part output
 -- these are all the bytes that a new output took of the job that the task has for such a file; that was done, of the
 -- input that was opened at its path; and the mode is what is left of that of the file
 pub record IsOutputOf {I O : Type 0} (h : Host I O) (reader : Reader I) (output : Writer O) (source : Source)
-    (task : Task) (part outputs : List ℕ) (start : Tree) (mode : ℕ) (bytes : List ℕ) : Type 0 where
+    (task : Task) (part outputs : List ℕ) (start : Tree) (earlier : List Tree) (mode : ℕ) (bytes : List ℕ)
+    : Type 0 where
   pub name : Named
   pub state : FileSystem
-  pub read : IsAtName h source part outputs start name state
+  pub read : IsAtName h source part outputs start earlier name state
   pub mode_is : mode ≡ h.masked read.file.mode
   pub job : Job
   pub mid : FileSystem
@@ -74,23 +82,23 @@ pub record IsOutputOf {I O : Type 0} (h : Host I O) (reader : Reader I) (output 
   pub done : is_written (ending_fate ending) ≡ true
   pub bytes_are : bytes ≡ h.took written
 
--- each file that has another name than the part was there, or is such an output
+-- each file that has another name than the part was there, or is such an output, of a file that was read before
 abbrev pub NeverHalf : {I O W E : Type 0} → (F : Type 0) → Reader I → Writer O → Writer W → Writer E → Type 0
 NeverHalf {I} {O} {W} {E} F reader output rows errors =
     (h : Host I O) (run : TreeRun) (source : Source) (start : Tree) (manifest : W) (from : E) (status : ℕ) (left : W)
     (to : E) (after : FileSystem)
     → DoesTree (over {F = F} h reader output errors) rows run source manifest from (begins start) status left to after
-    → Always (NoneHalf h (IsOutputOf h reader output source (task_of run.task) (part_path run) run.output.now start)
-    (part_path run) start) after
+    → AlwaysSoFar (NoneHalfSoFar h (IsOutputOf h reader output source (task_of run.task) (part_path run) run.output.now
+    start) (part_path run) start) after
 
 -- ---- the answer to its bytes
 
 -- these bytes are what a single run writes of those of the file, and the mode is what is left of that of the file
-pub record IsAnswerOf {I O : Type 0} (h : Host I O) (source : Source) (task : Task) (part output : List ℕ) (start : Tree)
-    (mode : ℕ) (bytes : List ℕ) : Type 0 where
+pub record IsAnswerOf {I O : Type 0} (h : Host I O) (source : Source) (task : Task) (part output : List ℕ)
+    (start : Tree) (earlier : List Tree) (mode : ℕ) (bytes : List ℕ) : Type 0 where
   pub name : Named
   pub state : FileSystem
-  pub read : IsAtName h source part output start name state
+  pub read : IsAtName h source part output start earlier name state
   pub mode_is : mode ≡ h.masked read.file.mode
   pub answered : (f : Found) → state.now.at (h.leads Followed name.path) ≡ Some f → f.kind ≡ kinds.File
       → IsAnswered task (state.now.bytes (number_of f)) bytes
@@ -102,8 +110,8 @@ NeverHalfOfBytes {I} {O} {W} {E} F reader output rows errors =
     (to : E) (after : FileSystem) → TellsAll h output
     → DoesTree (over {F = F} h (as_held h reader) output errors) rows run source manifest from (begins start) status
     left to after
-    → Always (NoneHalf h (IsAnswerOf h source (task_of run.task) (part_path run) run.output.now start) (part_path run) start)
-    after
+    → AlwaysSoFar (NoneHalfSoFar h (IsAnswerOf h source (task_of run.task) (part_path run) run.output.now start)
+    (part_path run) start) after
 
 -- ---- the same of the words of the program
 
@@ -114,10 +122,10 @@ pub data IsTaskOf (t : WordsTree) (task : Task) : Type 0 where
       → task ≡ keyed_task t.plan.days_by_key options reports key → IsTaskOf t task
 
 pub record IsOutputByWords {I O : Type 0} (h : Host I O) (reader : Reader I) (output : Writer O) (t : WordsTree)
-    (start : Tree) (mode : ℕ) (bytes : List ℕ) : Type 0 where
+    (start : Tree) (earlier : List Tree) (mode : ℕ) (bytes : List ℕ) : Type 0 where
   pub task : Task
   pub is_task : IsTaskOf t task
-  pub it : IsOutputOf h reader output t.source task (part_of_tree t) t.plan.output start mode bytes
+  pub it : IsOutputOf h reader output t.source task (part_of_tree t) t.plan.output start earlier mode bytes
 
 abbrev pub NeverHalfByWords : {I O E : Type 0} → (F : Type 0) → Reader I → Writer O → Writer E → Type 0
 NeverHalfByWords {I} {O} {E} F reader output errors =
@@ -125,4 +133,4 @@ NeverHalfByWords {I} {O} {E} F reader output errors =
     (after : FileSystem)
     → meant_tree words ≡ Ok t
     → ObeysTree (over {F = F} h reader output errors) words from (begins start) status to after
-    → Always (NoneHalf h (IsOutputByWords h reader output t start) (part_of_tree t) start) after
+    → AlwaysSoFar (NoneHalfSoFar h (IsOutputByWords h reader output t start) (part_of_tree t) start) after

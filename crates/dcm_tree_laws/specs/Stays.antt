@@ -32,3 +32,12 @@ OfEach Is (t ∷ ts) = Is t × OfEach Is ts
 -- and of a file system as it is, and of all that it was
 abbrev pub Always : (Tree → Type 0) → FileSystem → Type 0
 Always Is s = Is s.now × OfEach Is s.earlier
+
+-- it is so of each of these trees, beside those that were before it
+abbrev pub OfEachSoFar : ((now : Tree) → (earlier : List Tree) → Type 0) → List Tree → Type 0
+OfEachSoFar Is [] = Unit {0}
+OfEachSoFar Is (t ∷ ts) = Is t ts × OfEachSoFar Is ts
+
+-- and of a file system as it is, and of all that it was
+abbrev pub AlwaysSoFar : ((now : Tree) → (earlier : List Tree) → Type 0) → FileSystem → Type 0
+AlwaysSoFar Is s = OfEachSoFar Is (s.now ∷ s.earlier)

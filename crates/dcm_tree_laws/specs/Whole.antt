@@ -17,3 +17,8 @@ pub data IsWholeAt (IsWhole : ℕ → List ℕ → Type 0) (start now : Tree) (p
 abbrev pub NoneHalf : {I O : Type 0} → Host I O → (IsWhole : ℕ → List ℕ → Type 0) → (part : List ℕ) → (start now : Tree)
     → Type 0
 NoneHalf h IsWhole part start now = (place : List ℕ) → place ≢ place_of h part → IsWholeAt IsWhole start now place
+
+-- where it depends on the trees that were before what a whole output is
+abbrev pub NoneHalfSoFar : {I O : Type 0} → Host I O → (IsWhole : (earlier : List Tree) → ℕ → List ℕ → Type 0)
+    → (part : List ℕ) → (start now : Tree) → (earlier : List Tree) → Type 0
+NoneHalfSoFar h IsWhole part start now earlier = NoneHalf h (IsWhole earlier) part start now

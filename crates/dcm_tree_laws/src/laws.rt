@@ -40,9 +40,11 @@ pub fn others_stay<I: DeviceIn, O: DeviceOut, W: DeviceOut, E: DeviceOut, F>()
 /// No output of a tree is half under its name. After each call of a run over one, whatever calls fail, each file that
 /// was not there before is whole. It has all the bytes that its output took of a job that was done: the one that the
 /// run's task has for the file of a name below the folder that the run is over, or of a line of its list, done of the
-/// input that was opened at the path of that name. The mode is that of that file, less the bits that the system takes
-/// away. Where the calls of a reader give what the file holds, and an output tells all that it took, the bytes are what a
-/// single run writes of the bytes that were in the file when it was read. The run's own part is set aside.
+/// input that was opened at the path of that name. That file was there at a state that the run had before, links at the
+/// end of its path followed for a line of a list, and not in a folder. The mode is that of that file, less the bits
+/// that the system takes away. Where the calls of a reader give what the file holds, and an output tells all that it
+/// took, the bytes are what a single run writes of the bytes that were in the file when it was read. The run's own part
+/// is set aside.
 pub fn never_half<I: DeviceIn, O: DeviceOut, W: DeviceOut, E: DeviceOut, F>()
     ensures run { NeverHalf F I.DeviceIn O.DeviceOut W.DeviceOut E.DeviceOut }
     ensures bytes { NeverHalfOfBytes F I.DeviceIn O.DeviceOut W.DeviceOut E.DeviceOut }
