@@ -16,8 +16,10 @@ use Rattle.dcm_trees.specs.declared.beginning.Refusal.{Refusal}
 use Rattle.dcm_trees.specs.declared.run.TreeRun.{TreeRun}
 use Rattle.dcm_trees.specs.Run.{PutsFirstRow, EndsUnwritten}
 use Rattle.dcm_trees.specs.Tree.{OpensTree, VisitsAll, VisitsListed, Refuses, DoesTree}
-use Rattle.dcm_tree_laws.specs.FileSystem.{FileSystem, Host, Tree, begins, may_do, folders_do, place_of, at_path}
-use Rattle.dcm_tree_laws.specs.FileSystem.{SameBytes}
+use Rattle.dcm_trees.specs.World.{World}
+use Rattle.dcm_tree_laws.specs.Again.{over_sure}
+use Rattle.dcm_tree_laws.specs.Determined.{working}
+use Rattle.dcm_tree_laws.specs.FileSystem.{FileSystem, Host, Tree, SameBytes, begins, place_of, at_path}
 use Rattle.dcm_tree_laws.specs.Laws.{over, part_path}
 use Rattle.dcm_tree_laws.specs.Single.{as_held}
 
@@ -49,43 +51,49 @@ pub record Ready {I O : Type 0} (h : Host I O) (run : TreeRun) (start : Tree) (b
 -- written. Or the names of the folder, or of the list, that it was asked for are visited, from a state in which it was
 -- begun, and behind the first row. What they leave is there at the end of the run: that the list is given back changes
 -- nothing
-pub data ComesTo {I O W E : Type 0} (F : Type 0) (h : Host I O) (reader : Reader I) (output : Writer O)
-    (rows : Writer W) (errors : Writer E) (run : TreeRun) (source : Source) (start : Tree) (manifest : W) (from : E)
-    (status : ℕ) (left : W) (to : E) (after : FileSystem) : Type 0 where
-  refused : (refusal : Refusal) → Refuses errors run refusal from status to → left ≡ manifest
+pub data ComesTo {I O F W E : Type 0} (h : Host I O) (w : World FileSystem I O F E) (rows : Writer W) (run : TreeRun)
+    (source : Source) (start : Tree) (manifest : W) (from : E) (status : ℕ) (left : W) (to : E) (after : FileSystem)
+    : Type 0 where
+  refused : (refusal : Refusal) → Refuses w.errors run refusal from status to → left ≡ manifest
       → OnlyOutput h run.output.now start after.now
-      → ComesTo F h reader output rows errors run source start manifest from status left to after
-  no_list : (path : List ℕ) → source ≡ list path → Reports errors from to (unopened_line path) → status ≡ DEVICE
-      → left ≡ manifest → after ≡ begins start
-      → ComesTo F h reader output rows errors run source start manifest from status left to after
+      → ComesTo h w rows run source start manifest from status left to after
+  no_list : (path : List ℕ) → source ≡ list path → Reports w.errors from to (unopened_line path) → status ≡ DEVICE
+      → left ≡ manifest → after ≡ begins start → ComesTo h w rows run source start manifest from status left to after
   no_header : (failure : WriteFailed) → PutsFirstRow rows run.options.has_header manifest (Err failure) left
-      → EndsUnwritten errors run.options.counts from status to → OnlyOutput h run.output.now start after.now
-      → ComesTo F h reader output rows errors run source start manifest from status left to after
+      → EndsUnwritten w.errors run.options.counts from status to → OnlyOutput h run.output.now start after.now
+      → ComesTo h w rows run source start manifest from status left to after
   in_folder : (path : List ℕ) (opened : F) (begun : Begun) (headed : W) (mid : FileSystem) → source ≡ folder path
-      → OpensTree (folders_do {F = F} h) path (begins start) (Some opened) (begins start)
+      → OpensTree w.folders path (begins start) (Some opened) (begins start)
       → PutsFirstRow rows run.options.has_header manifest (Ok _) headed → Ready h run start begun mid
-      → VisitsAll (over {F = F} h reader output errors) rows run path begun opened headed from mid status left to after
-      → ComesTo F h reader output rows errors run source start manifest from status left to after
+      → VisitsAll w rows run path begun opened headed from mid status left to after
+      → ComesTo h w rows run source start manifest from status left to after
   in_list : (path : List ℕ) (opened : Opened I) (begun : Begun) (headed : W) (mid : FileSystem) (read : I)
-      → source ≡ list path → OpensInput (may_do h) path (begins start) (Ok opened) (begins start)
+      → source ≡ list path → OpensInput w.may path (begins start) (Ok opened) (begins start)
       → PutsFirstRow rows run.options.has_header manifest (Ok _) headed → Ready h run start begun mid
-      → VisitsListed (over {F = F} h reader output errors) rows run path begun opened.device headed from mid status left
-      to after read
-      → ComesTo F h reader output rows errors run source start manifest from status left to after
+      → VisitsListed w rows run path begun opened.device headed from mid status left to after read
+      → ComesTo h w rows run source start manifest from status left to after
 
--- so it is of each run, whatever calls fail
+-- so it is of each run over such a world
+abbrev pub EachBeginsSo : {I O F W E : Type 0} → (Host I O → World FileSystem I O F E) → Writer W → Type 0
+EachBeginsSo {I} {O} {F} {W} {E} world_of rows =
+    (h : Host I O) (run : TreeRun) (source : Source) (start : Tree) (manifest : W) (from : E) (status : ℕ) (left : W)
+    (to : E) (after : FileSystem)
+    → DoesTree (world_of h) rows run source manifest from (begins start) status left to after
+    → ComesTo h (world_of h) rows run source start manifest from status left to after
+
+-- whatever calls fail
 abbrev pub RunsBeginSo : {I O W E : Type 0} → (F : Type 0) → Reader I → Writer O → Writer W → Writer E → Type 0
-RunsBeginSo {I} {O} {W} {E} F reader output rows errors =
-    (h : Host I O) (run : TreeRun) (source : Source) (start : Tree) (manifest : W) (from : E) (status : ℕ) (left : W)
-    (to : E) (after : FileSystem)
-    → DoesTree (over {F = F} h reader output errors) rows run source manifest from (begins start) status left to after
-    → ComesTo F h reader output rows errors run source start manifest from status left to after
+RunsBeginSo F reader output rows errors = EachBeginsSo (λ h. over {F = F} h reader output errors) rows
 
--- and of one whose readers give what the files hold that were opened
+-- where readers give what the files hold that were opened
 abbrev pub RunsOfHeldBeginSo : {I O W E : Type 0} → (F : Type 0) → Reader I → Writer O → Writer W → Writer E → Type 0
-RunsOfHeldBeginSo {I} {O} {W} {E} F reader output rows errors =
-    (h : Host I O) (run : TreeRun) (source : Source) (start : Tree) (manifest : W) (from : E) (status : ℕ) (left : W)
-    (to : E) (after : FileSystem)
-    → DoesTree (over {F = F} h (as_held h reader) output errors) rows run source manifest from (begins start) status left
-    to after
-    → ComesTo F h (as_held h reader) output rows errors run source start manifest from status left to after
+RunsOfHeldBeginSo F reader output rows errors =
+    EachBeginsSo (λ h. over {F = F} h (as_held h reader) output errors) rows
+
+-- where no look fails
+abbrev pub SureRunsBeginSo : {I O W E : Type 0} → (F : Type 0) → Reader I → Writer O → Writer W → Writer E → Type 0
+SureRunsBeginSo F reader output rows errors = EachBeginsSo (λ h. over_sure {F = F} h reader output errors) rows
+
+-- and where no call fails that need not
+abbrev pub WorkingRunsBeginSo : {I O W E : Type 0} → (F : Type 0) → Reader I → Writer O → Writer W → Writer E → Type 0
+WorkingRunsBeginSo F reader output rows errors = EachBeginsSo (λ h. working {F = F} h reader output errors) rows

@@ -6,7 +6,7 @@ ghost use Rattle.dcm_tree_laws.specs.Behind.{RowsAreToldBehind, RowsAreToldBehin
 ghost use Rattle.dcm_tree_laws.specs.Copied.{CopiesAreThere, CopiesAreThereOfList};
 ghost use Rattle.dcm_tree_laws.specs.Copied.{SecondIsAsItWas, SecondIsAsItWasOfList};
 ghost use Rattle.dcm_tree_laws.specs.Copies.{CopyIsLeft, UnnamedIsLeft, AgainIsAsItWas, AgainIsAsItWasOfList};
-ghost use Rattle.dcm_tree_laws.specs.Course.{RunsBeginSo, RunsOfHeldBeginSo};
+ghost use Rattle.dcm_tree_laws.specs.Course.{RunsBeginSo, RunsOfHeldBeginSo, SureRunsBeginSo, WorkingRunsBeginSo};
 ghost use Rattle.dcm_tree_laws.specs.Determined.{OneEnd, EndIsAnswer, OneInstance};
 ghost use Rattle.dcm_tree_laws.specs.Distinct.{OutputsAreDistinct, OutputsAreDistinctOfList};
 ghost use Rattle.dcm_tree_laws.specs.Flows.{NoNameFlows, SameBecomes};
@@ -53,12 +53,16 @@ pub fn never_half<I: DeviceIn, O: DeviceOut, W: DeviceOut, E: DeviceOut, F>()
 
 /// A run over a tree ends before its first name, or visits its names from a state as the laws of names ask for it. In
 /// that state no file is being written, no removing of a file has failed, the path of the part is the run's own and
-/// text, and nothing is there. Up to then no more was done than to make the folder of the outputs where nothing was. A run
-/// that is refused, or whose first row cannot be written, tells that and does no more either; where it is refused its
-/// manifest is as it was. So it is whatever calls fail.
+/// text, and nothing is there. Up to then no more was done than to make the folder of the outputs where nothing was. A
+/// run that is refused, or whose first row cannot be written, tells that and does no more either; where it is refused
+/// its manifest is as it was. So it is whatever calls fail. It is so too over each system that other laws ask for:
+/// where readers give what the files hold, where no look fails, and where no call fails that need not. There the names
+/// are visited over that same system.
 pub fn runs_begin_so<I: DeviceIn, O: DeviceOut, W: DeviceOut, E: DeviceOut, F>()
     ensures run { RunsBeginSo F I.DeviceIn O.DeviceOut W.DeviceOut E.DeviceOut }
     ensures held { RunsOfHeldBeginSo F I.DeviceIn O.DeviceOut W.DeviceOut E.DeviceOut }
+    ensures sure { SureRunsBeginSo F I.DeviceIn O.DeviceOut W.DeviceOut E.DeviceOut }
+    ensures working { WorkingRunsBeginSo F I.DeviceIn O.DeviceOut W.DeviceOut E.DeviceOut }
 {}
 
 /// The manifest of a tree has one row for each name. These are the names of a run's share that it visits, in their
