@@ -2,6 +2,7 @@ pub mod Rows
 pub mod Marked
 pub mod Known
 pub mod InParts
+pub mod Anew
 pub mod AlwaysKept
 pub mod Trees
 mod FateRows

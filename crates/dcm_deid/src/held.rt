@@ -93,11 +93,7 @@ impl HeldValue {
         let Fate::Anew(made) = self.fate else {
             return ArrayVec::new();
         };
-        let mut new = key.made_new(options, made, self.ordered().as_slice());
-        if new.len() % 2 == 1 {
-            new.push(self.vr.pad());
-        }
-        new
+        key.made_whole(options, made, self.vr, self.ordered().as_slice())
     }
 
     /// Whether it is YES.

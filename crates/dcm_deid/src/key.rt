@@ -3,11 +3,14 @@ ghost use Rattle.std.specs.Prelude.{◌≡◌, ◌≤◌, length};
 ghost use Rattle.dcm_base.specs.Tables.Transfer.{without_pads};
 ghost use Rattle.dcm_uid.specs.Hmac.{IsKey};
 ghost use Rattle.dcm_uid.specs.Uid as spec;
+ghost use Rattle.dcm_deid.specs.DeidentifySink.{made_of};
 ghost use Rattle.dcm_deid.specs.MadeNew as making;
+ghost use Rattle.dcm_deid.specs.declared.fate.Fate.TheVariants.{Anew};
 
 use crate::fate::{NewValue, Options, Temporal};
 use crate::held::MOST_HELD;
 use arrayvec::ArrayVec;
+use dcm_base::Vr;
 use dcm_dates::{DateKind, moved};
 use dcm_head::without_pads;
 use dcm_uid::{Key, new_value, pseudonym};
@@ -79,5 +82,22 @@ impl<'a> UidKey<'a> {
             NewValue::MovedDate => moved(DateKind::Da, days, without_pads(value)),
             NewValue::MovedDateTime => moved(DateKind::Dt, days, without_pads(value)),
         }
+    }
+
+    /// The same of an even number of bytes, as a value of this representation is padded.
+    pub fn made_whole(
+        &self,
+        options: &Options,
+        made: NewValue,
+        vr: Vr,
+        value: &[u8],
+    ) -> ArrayVec<u8, MOST_HELD>
+        ensures { result.items ≡ made_of (making.made_new options.now self.now.bytes.now) (Anew made) vr value.now }
+    {
+        let mut new = self.made_new(options, made, value);
+        if new.len() % 2 == 1 {
+            new.push(vr.pad());
+        }
+        new
     }
 }

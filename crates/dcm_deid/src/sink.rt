@@ -20,7 +20,7 @@ use crate::fate::{Depth, Fate, Options};
 use crate::held::HeldValue;
 use crate::key::UidKey;
 use crate::said::{Gap, put_leaf, put_said};
-use crate::whole::pass_unheld;
+use crate::whole::{pass_anew, pass_unheld};
 use dcm_base::{Form, Length, Syntax, Tag, WriteFailed};
 use dcm_head::Head;
 use dcm_stream::{Bar, Sink, Token};
@@ -333,11 +333,21 @@ impl<'a, S: Sink> DeidentifySink<'a, S> {
             return self.pass_within(head, syntax, value);
         }
         let fate = self.place.fate(&self.options, Form::Value, head.tag);
-        if is_held(fate, Form::Value, head.tag) {
-            return self.take_by_token(head, syntax, value);
-        }
         let place = &mut self.place;
-        pass_unheld(&self.options, place, fate, head, syntax, value, self.inner)
+        match fate {
+            Fate::Anew(made) if !syntax.is_big() => pass_anew(
+                &self.options,
+                &self.key,
+                place,
+                made,
+                head,
+                syntax,
+                value,
+                self.inner,
+            ),
+            _ if is_held(fate, Form::Value, head.tag) => self.take_by_token(head, syntax, value),
+            _ => pass_unheld(&self.options, place, fate, head, syntax, value, self.inner),
+        }
     }
 }
 

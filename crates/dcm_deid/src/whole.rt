@@ -1,15 +1,19 @@
 // An element with its whole value, by one call.
-ghost use Rattle.std.specs.Prelude.{◌≡◌, ℕ, List, false, OnOk, OnErr};
+ghost use Rattle.std.specs.Prelude.{◌≡◌, ◌++◌, ◌<◌, ◌^◌, ℕ, List, Some, None, length, false, OnOk, OnErr};
 ghost use Rattle.dcm_base.specs.declared.form.Form.TheVariants.{Value as a_value};
+ghost use Rattle.dcm_base.specs.Tables.Syntax.{is_big};
+ghost use Rattle.dcm_deid.specs.declared.fate.Fate.TheVariants.{Anew};
 ghost use Rattle.dcm_deid.specs.DeidentifySink as spec;
 ghost use Rattle.dcm_deid.specs.Deidentifying as deidentifying;
 ghost use Rattle.dcm_stream.specs.Sinks as sinks;
 ghost use Rattle.dcm_stream.specs.Skip.{depth};
 ghost use Rattle.dcm_deid.specs.Noting.{NotesFailed, Told, head_put, value_put};
-ghost use Rattle.dcm_stream.specs.Tokens.{IsLeaf, whole_atoms};
+ghost use Rattle.dcm_stream.specs.Tokens.{IsLeaf, leaf_atoms, whole_atoms};
 
 use crate::deidentifier::Deidentifier;
-use crate::fate::{Fate, Options};
+use crate::fate::{Fate, NewValue, Options};
+use crate::key::UidKey;
+use crate::said::put_leaf;
 use crate::sink::{put_gap, put_head};
 use dcm_base::{Form, Syntax, WriteFailed};
 use dcm_head::Head;
@@ -76,4 +80,53 @@ pub fn pass_unheld<S: Sink>(
             Err(WriteFailed)
         }
     }
+}
+
+/// Passes on a new value in the place of an element, and goes on after it. The element is noted before anything of it
+/// is put, as it is by its tokens, also where the writer then fails.
+#[inline(always)]
+fn put_in_place<S: Sink>(
+    options: &Options,
+    place: &mut Deidentifier,
+    head: Head,
+    new: &[u8],
+    sink: &mut S,
+) -> Result<(), WriteFailed>
+    requires { length new.now < 2 ^ 32 }
+    ensures took { sinks.Took S.Sink sink.old sink.new (spec.said_before options.now (deidentifying.place place.old)
+        (Some head.tag) ++ leaf_atoms head.tag head.vr new.now) result }
+    ensures state { OnOk result (deidentifying.place place.new
+        ≡ spec.with_last (spec.holding (deidentifying.place place.old) None) head.tag) }
+{
+    let tag = head.tag;
+    put_gap(options, place, Some(tag), sink)?;
+    place.pass_by(tag);
+    put_leaf(tag, head.vr, new, sink)
+}
+
+/// Passes on what is made of the whole value of an element in little endian, and goes on after it. It is read where it
+/// is: by its tokens it would be copied, held until its end, and copied again. It is not inlined, as few elements are
+/// made anew. The syntax is for the contract alone.
+#[inline(never)]
+pub fn pass_anew<S: Sink>(
+    options: &Options,
+    key: &UidKey,
+    place: &mut Deidentifier,
+    made: NewValue,
+    head: Head,
+    syntax: Syntax,
+    value: &[u8],
+    sink: &mut S,
+) -> Result<(), WriteFailed>
+    requires leaf { IsLeaf head syntax value.now }
+    requires shown { depth place.old.skip ≡ 0 }
+    requires fate { Anew made ≡ spec.fate_at options.now (deidentifying.place place.old) a_value head.tag }
+    requires little { is_big syntax ≡ false }
+    ensures took { sinks.Took S.Sink sink.old sink.new
+        (deidentifying.passed_of options.now key.now.bytes.now place.old (whole_atoms head syntax value.now)) result }
+    ensures state { OnOk result
+        (deidentifying.GoesOn options.now place.old place.new (whole_atoms head syntax value.now)) }
+{
+    let new = key.made_whole(options, made, head.vr, value);
+    put_in_place(options, place, head, new.as_slice(), sink)
 }
