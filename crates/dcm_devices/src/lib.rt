@@ -20,11 +20,13 @@ mod calls;
 mod device;
 mod memory;
 mod passed;
+mod std_calls;
 mod std_device;
 mod watched;
 
 pub use calls::{flush_out, get_some, put_all, put_array, put_decimal, put_parts};
 pub use device::{Device, DeviceIn, DeviceOut, ReadFailed, WriteFailed};
 pub use memory::{Measured, MemIn, MemOut};
+pub use std_calls::{StdReader, StdWriter};
 pub use std_device::Std;
 pub use watched::Watched;
