@@ -5,7 +5,9 @@ ghost use Rattle.std.specs.Io.KnownBytes.{ReadConsumes, WriteAppends, Keeps};
 ghost use Rattle.std.specs.declared.io.Error.{Error};
 ghost use Rattle.dcm_devices.specs.StdDevice.{any_read, any_write, any_flush};
 
+use either::Either;
 use std::alloc::Allocator;
+use std::fs::Files;
 use std::io;
 use std::io::{BufWriter, Read, Stderr, Write};
 
@@ -39,6 +41,25 @@ pub trait StdWriter: Write {
     fn hand_on(&mut self) -> io::Result<()>
         ensures bytes { Keeps (Self.contents self.old) (Self.contents self.new) }
         ensures answer { may_flush self.old result self.new };
+}
+
+impl<L: Read, R: Read> StdReader for Either<L, R> {
+    ghost may_read = { any_read };
+
+    #[inline(always)]
+    fn read_some(&mut self, buf: &mut [u8]) -> io::Result<usize> {
+        self.read(buf)
+    }
+}
+
+/// The names of a folder.
+impl StdReader for <HostRuntime as Files>::Dir {
+    ghost may_read = { any_read };
+
+    #[inline(always)]
+    fn read_some(&mut self, buf: &mut [u8]) -> io::Result<usize> {
+        self.read(buf)
+    }
 }
 
 impl StdWriter for Stderr {
