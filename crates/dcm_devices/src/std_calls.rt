@@ -57,8 +57,8 @@ impl StdReader for <HostRuntime as Files>::Dir {
     ghost may_read = { any_read };
 
     #[inline(always)]
-    fn read_some(&mut self, buf: &mut [u8]) -> io::Result<usize> {
-        self.read(buf)
+    fn read_some(&mut self, names: &mut [u8]) -> io::Result<usize> {
+        self.read(names)
     }
 }
 
@@ -84,8 +84,8 @@ impl<A: Allocator> StdWriter for Vec<u8, A> {
     ghost may_flush = { any_flush };
 
     #[inline(always)]
-    fn write_some(&mut self, bytes: &[u8]) -> io::Result<usize> {
-        self.write(bytes)
+    fn write_some(&mut self, added: &[u8]) -> io::Result<usize> {
+        self.write(added)
     }
 
     #[inline(always)]
@@ -100,8 +100,8 @@ impl<W: Write + Drop, A: Allocator> StdWriter for BufWriter<W, A> {
     ghost may_flush = { any_flush };
 
     #[inline(always)]
-    fn write_some(&mut self, bytes: &[u8]) -> io::Result<usize> {
-        self.write(bytes)
+    fn write_some(&mut self, buf: &[u8]) -> io::Result<usize> {
+        self.write(buf)
     }
 
     #[inline(always)]
