@@ -2,3 +2,4 @@ pub mod Device
 pub mod Memory
 pub mod Decimal
 pub mod Writing
+pub mod StdDevice

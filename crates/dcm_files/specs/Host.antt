@@ -6,7 +6,7 @@ use Rattle.dcm_files.specs.Call.{moved, removed, closed, kind_in, opened_folder,
 use Rattle.dcm_files.specs.Call.{made_as, linked, whether, kept_mode}
 use Rattle.dcm_files.specs.Devices.{MayDo}
 use Rattle.dcm_files.specs.Folders.{FoldersDo}
-use Rattle.dcm_files.specs.HostFolder.{Listing, Next}
+use Rattle.dcm_files.specs.HostFolder.{Listing, MayRead, Next}
 
 -- a device that has not failed, and has neither given nor taken a byte
 pub record IsNew {T : Type 0} (device : Std T) : Type 0 where
@@ -37,13 +37,14 @@ noted calls = record {
   closes = λ before d after. Adds (closed d.passed.bytes d.failed) (calls before) (calls after);
 }
 
--- and those on folders, of what the folders have still to list
-abbrev pub noted_folders : {S D U : Type 0} → (calls : S → List Call) → (remaining : D → Option (List ℕ))
+-- and those on folders, of what the folders have still to list and what a call on them may answer
+abbrev pub noted_folders : {S D U : Type 0} → (calls : S → List Call) → (remaining : D → Option (List ℕ)) → MayRead D
     → FoldersDo S (Std U) (Listing D)
-noted_folders calls remaining = record {
+noted_folders calls remaining may_read = record {
   opens_folder = λ before path r after.
       Adds (opened_folder path (whether r)) (calls before) (calls after) × IfOk r (λ folder. folder.pending ≡ []);
-  names = λ before folder r left after. Adds (named r) (calls before) (calls after) × Next remaining folder r left;
+  names = λ before folder r left after. Adds (named r) (calls before) (calls after)
+      × Next remaining may_read folder r left;
   closes_folder = λ before folder after. Adds closed_folder (calls before) (calls after);
   finds = λ before path links r after. Adds (found path links r) (calls before) (calls after);
   makes_folder = λ before path r after. Adds (made_folder path r) (calls before) (calls after);

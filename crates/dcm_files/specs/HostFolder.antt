@@ -25,19 +25,26 @@ after_name bytes = drop (name_size bytes + 1) bytes
 abbrev pub is_dots : List ℕ → Bool
 is_dots name = bytes_eq name (46 ∷ []) || bytes_eq name (46 ∷ 46 ∷ [])
 
--- more is read: it is pending then. Nothing comes only at the end.
-abbrev pub Reads : {D : Type 0} → (remaining : D → Option (List ℕ)) → (old new : Listing D) → Result Bool Error
-    → Type 0
-Reads remaining old new r = MatchResult r
+-- what one call on what gives the names may answer, and leave in its buffer and of it
+abbrev pub MayRead : Type 0 → Type 1
+MayRead D = D → Result ℕ Error → List ℕ → D → Type 0
+
+-- more is read by one call, and what that gave is pending then. Nothing comes only at the end. An error is that of the
+-- call.
+abbrev pub Reads : {D : Type 0} → (remaining : D → Option (List ℕ)) → MayRead D → (old new : Listing D)
+    → Result Bool Error → Type 0
+Reads remaining may_read old new r = MatchResult r
     (λ some. Consumes (remaining old.names) (remaining new.names) new.pending
-    × (some ≡ nat_lt 0 (length new.pending)) × (some ≡ false → IsAtEnd (remaining new.names)))
-    (λ _. Keeps (remaining old.names) (remaining new.names) × (new.pending ≡ []))
+    × (some ≡ nat_lt 0 (length new.pending)) × (some ≡ false → IsAtEnd (remaining new.names))
+    × (n : ℕ) × (buffer : List ℕ) × may_read old.names (Ok n) buffer new.names × (new.pending ≡ take n buffer))
+    (λ e. Keeps (remaining old.names) (remaining new.names) × (new.pending ≡ [])
+    × (buffer : List ℕ) × may_read old.names (Err e) buffer new.names)
 
 -- names are pending, or more is read; and whether any are pending now
-pub record Refills {D : Type 0} (remaining : D → Option (List ℕ)) (old new : Listing D) (r : Result Bool Error)
-    : Type 0 where
+pub record Refills {D : Type 0} (remaining : D → Option (List ℕ)) (may_read : MayRead D) (old new : Listing D)
+    (r : Result Bool Error) : Type 0 where
   pub held : 0 < length old.pending → (new ≡ old) × (r ≡ Ok true)
-  pub read : old.pending ≡ [] → Reads remaining old new r
+  pub read : old.pending ≡ [] → Reads remaining may_read old new r
 
 -- the first name that is pending is taken
 pub record Takes {D : Type 0} (old new : Listing D) (name : List ℕ) : Type 0 where
@@ -46,21 +53,23 @@ pub record Takes {D : Type 0} (old new : Listing D) (name : List ℕ) : Type 0 w
   pub names : new.names ≡ old.names
 
 -- so many names were taken, each of them `.` or `..`
-pub data Passes {D : Type 0} (remaining : D → Option (List ℕ)) (old : Listing D) : ℕ → Listing D → Type 0 where
-  no_name : {new : Listing D} → new ≡ old → Passes remaining old 0 new
-  and_name : {n : ℕ} {new : Listing D} (mid filled : Listing D) (name : List ℕ) → Passes remaining old n mid
-      → Refills remaining mid filled (Ok true) → Takes filled new name → is_dots name ≡ true
-      → Passes remaining old (n + 1) new
+pub data Passes {D : Type 0} (remaining : D → Option (List ℕ)) (may_read : MayRead D) (old : Listing D)
+    : ℕ → Listing D → Type 0 where
+  no_name : {new : Listing D} → new ≡ old → Passes remaining may_read old 0 new
+  and_name : {n : ℕ} {new : Listing D} (mid filled : Listing D) (name : List ℕ) → Passes remaining may_read old n mid
+      → Refills remaining may_read mid filled (Ok true) → Takes filled new name → is_dots name ≡ true
+      → Passes remaining may_read old (n + 1) new
 
--- the next name but these, or none where nothing is pending and the reader is at its end. An error is one of the
--- reader, or there were more of them than a folder has
-pub data Next {D : Type 0} (remaining : D → Option (List ℕ)) (old : Listing D)
+-- the next name but these, or none where nothing is pending and the reader is at its end. An error is one that a call
+-- answered, or there were more of them than a folder has
+pub data Next {D : Type 0} (remaining : D → Option (List ℕ)) (may_read : MayRead D) (old : Listing D)
     : Result (Option (List ℕ)) Error → Listing D → Type 0 where
-  gives : {new : Listing D} (n : ℕ) (mid filled : Listing D) (name : List ℕ) → Passes remaining old n mid
-      → Refills remaining mid filled (Ok true) → Takes filled new name → is_dots name ≡ false
-      → Next remaining old (Ok (Some name)) new
-  ends : {new : Listing D} (n : ℕ) (mid : Listing D) → Passes remaining old n mid
-      → Refills remaining mid new (Ok false) → Next remaining old (Ok None) new
-  fails : {new : Listing D} (n : ℕ) (mid : Listing D) (e : Error) → Passes remaining old n mid
-      → Refills remaining mid new (Err e) → Next remaining old (Err e) new
-  goes_on : {new : Listing D} (e : Error) → Passes remaining old (2 ^ 64 - 1) new → Next remaining old (Err e) new
+  gives : {new : Listing D} (n : ℕ) (mid filled : Listing D) (name : List ℕ) → Passes remaining may_read old n mid
+      → Refills remaining may_read mid filled (Ok true) → Takes filled new name → is_dots name ≡ false
+      → Next remaining may_read old (Ok (Some name)) new
+  ends : {new : Listing D} (n : ℕ) (mid : Listing D) → Passes remaining may_read old n mid
+      → Refills remaining may_read mid new (Ok false) → Next remaining may_read old (Ok None) new
+  fails : {new : Listing D} (n : ℕ) (mid : Listing D) (e : Error) → Passes remaining may_read old n mid
+      → Refills remaining may_read mid new (Err e) → Next remaining may_read old (Err e) new
+  goes_on : {new : Listing D} (e : Error) → Passes remaining may_read old (2 ^ 64 - 1) new
+      → Next remaining may_read old (Err e) new

@@ -9,7 +9,7 @@ use crate::host_folder::HostFolder;
 use crate::modes::{USUAL_MODE, give_mode, mode_of};
 use crate::opened::{FileKind, Opened};
 use crate::output::OutputFile;
-use dcm_devices::{Device, Std};
+use dcm_devices::{Device, Std, StdReader};
 use either::{Either, Left, Right};
 use std::alloc::AllocError;
 use std::env::{Env, FillError};
@@ -355,7 +355,8 @@ impl System for Host {
 impl Folders for Host {
     type Folder = HostNames;
 
-    ghost folders_do = { noted_folders (λ host. host.calls.made) ⟦<<HostRuntime as Files>::Dir as Read>⟧.remaining };
+    ghost folders_do = { noted_folders (λ host. host.calls.made) ⟦<<HostRuntime as Files>::Dir as Read>⟧.remaining
+        ⟦<<HostRuntime as Files>::Dir as StdReader>⟧.may_read };
 
     fn open_folder(&mut self, path: &str) -> io::Result<HostNames> {
         let opened = open_names(self.rt, path);

@@ -4,8 +4,9 @@ ghost use Rattle.dcm_files.specs.Folders.{name_given};
 ghost use Rattle.dcm_files.specs.HostFolder as spec;
 
 use crate::folders::EntryName;
+use dcm_devices::StdReader;
 use std::io;
-use std::io::{ErrorKind, Read};
+use std::io::ErrorKind;
 use std::marker::Model;
 
 /// The bytes of names that are listed at a time.
@@ -31,7 +32,7 @@ impl<D> Model for HostFolder<D> {
     ghost invariant = { λ f. (f.at ≤ f.filled) × (f.filled ≤ 4096) };
 }
 
-impl<D: Read> HostFolder<D> {
+impl<D: StdReader> HostFolder<D> {
     /// Of a folder that was opened.
     pub(crate) fn new(names: D) -> Self
         ensures names { result.names ≡ names }
@@ -47,12 +48,12 @@ impl<D: Read> HostFolder<D> {
 
     /// Lists more names, where all that are held were taken. Answers whether there are any.
     fn refill(&mut self) -> io::Result<bool>
-        ensures { spec.Refills D.remaining self.old self.new result }
+        ensures { spec.Refills D.remaining D.may_read self.old self.new result }
     {
         if self.at < self.filled {
             return Ok(true);
         }
-        let size = self.names.read(&mut self.held)?;
+        let size = self.names.read_some(&mut self.held)?;
         self.at = 0;
         self.filled = size;
         Ok(size > 0)
@@ -73,7 +74,7 @@ impl<D: Read> HostFolder<D> {
 
     /// Gives the next name but `.` and `..`, and answers whether there is one. A list of these without end is an error.
     pub(crate) fn next(&mut self, name: &mut EntryName) -> io::Result<bool>
-        ensures { spec.Next D.remaining self.old (name_given name.new.items result) self.new }
+        ensures { spec.Next D.remaining D.may_read self.old (name_given name.new.items result) self.new }
     {
         for _passed in 0..u64::MAX {
             if !self.refill()? {

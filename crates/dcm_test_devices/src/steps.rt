@@ -1,4 +1,7 @@
 // A reader that gives its bytes in steps.
+ghost use Rattle.dcm_devices.specs.StdDevice.{any_read};
+
+use dcm_base::StdReader;
 use std::io;
 use std::io::{ErrorKind, Read};
 
@@ -27,5 +30,13 @@ impl<'a> Read for Steps<'a> {
         bytes[..n].copy_from_slice(front);
         self.rest = rest;
         Ok(n)
+    }
+}
+
+impl<'a> StdReader for Steps<'a> {
+    ghost may_read = { any_read };
+
+    fn read_some(&mut self, bytes: &mut [u8]) -> io::Result<usize> {
+        self.read(bytes)
     }
 }

@@ -1,4 +1,7 @@
 // A writer that fails.
+ghost use Rattle.dcm_devices.specs.StdDevice.{any_write, any_flush};
+
+use dcm_base::StdWriter;
 use std::alloc::Global;
 use std::cell::Cell;
 use std::io;
@@ -86,5 +89,19 @@ impl<'a> Write for FailWriter<'a> {
         }
         self.note_failure();
         Err(io::Error::from(ErrorKind::Interrupted))
+    }
+}
+
+impl<'a> StdWriter for FailWriter<'a> {
+    ghost may_write = { any_write };
+
+    ghost may_flush = { any_flush };
+
+    fn write_some(&mut self, bytes: &[u8]) -> io::Result<usize> {
+        self.write(bytes)
+    }
+
+    fn hand_on(&mut self) -> io::Result<()> {
+        self.flush()
     }
 }

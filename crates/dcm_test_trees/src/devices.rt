@@ -1,4 +1,7 @@
 // What is read and written, and how that fails.
+ghost use Rattle.dcm_devices.specs.StdDevice.{any_read, any_write, any_flush};
+
+use dcm_devices::{StdReader, StdWriter};
 use std::alloc::Global;
 use std::io;
 use std::io::{ErrorKind, Read, Write};
@@ -78,6 +81,14 @@ impl Read for TreeReader {
     }
 }
 
+impl StdReader for TreeReader {
+    ghost may_read = { any_read };
+
+    fn read_some(&mut self, bytes: &mut [u8]) -> io::Result<usize> {
+        self.read(bytes)
+    }
+}
+
 /// A writer of std that takes so many bytes, and fails then.
 #[derive(Drop)]
 pub struct TreeWriter {
@@ -113,5 +124,19 @@ impl Write for TreeWriter {
 
     fn flush(&mut self) -> io::Result<()> {
         Ok(())
+    }
+}
+
+impl StdWriter for TreeWriter {
+    ghost may_write = { any_write };
+
+    ghost may_flush = { any_flush };
+
+    fn write_some(&mut self, bytes: &[u8]) -> io::Result<usize> {
+        self.write(bytes)
+    }
+
+    fn hand_on(&mut self) -> io::Result<()> {
+        self.flush()
     }
 }

@@ -1,7 +1,8 @@
 // Devices that fail, and what a run over them leaves.
 ghost use Rattle.std.specs.Prelude.{◌≡◌, Some};
+ghost use Rattle.dcm_devices.specs.StdDevice.{any_write, any_flush};
 
-use dcm_base::{Device, DeviceIn, ReadFailed, Std, Watched};
+use dcm_base::{Device, DeviceIn, ReadFailed, Std, StdWriter, Watched};
 use dcm_cli::Job;
 use dcm_test_devices::{ALL, Failure, Steps};
 use dcm_test_runs::{bytes_in, job_status, memory_out};
@@ -95,6 +96,20 @@ impl<'a> Write for FailWriter<'a> {
         }
         self.has_failed = true;
         Err(io::Error::from(ErrorKind::Interrupted))
+    }
+}
+
+impl<'a> StdWriter for FailWriter<'a> {
+    ghost may_write = { any_write };
+
+    ghost may_flush = { any_flush };
+
+    fn write_some(&mut self, bytes: &[u8]) -> io::Result<usize> {
+        self.write(bytes)
+    }
+
+    fn hand_on(&mut self) -> io::Result<()> {
+        self.flush()
     }
 }
 

@@ -1,0 +1,111 @@
+// What a device of the standard library calls.
+ghost use Rattle.std.specs.Prelude.{ℕ, List, Result};
+ghost use Rattle.std.specs.Io.{ReadsAtMost, WritesAtMost};
+ghost use Rattle.std.specs.Io.KnownBytes.{ReadConsumes, WriteAppends, Keeps};
+ghost use Rattle.std.specs.declared.io.Error.{Error};
+ghost use Rattle.dcm_devices.specs.StdDevice.{any_read, any_write, any_flush};
+
+use either::Either;
+use std::alloc::Allocator;
+use std::fs::Files;
+use std::io;
+use std::io::{BufWriter, Read, Stderr, Write};
+
+/// A reader of the standard library. Proofs can name each answer of it.
+pub trait StdReader: Read {
+    /// Whether one call may lead from a reader to a later one, answer this, and leave this in the buffer.
+    ghost may_read: { Self → Result ℕ Error → List ℕ → Self → Type 0 };
+
+    /// Reads some bytes, as `read` does.
+    fn read_some(&mut self, buf: &mut [u8]) -> io::Result<usize>
+        ensures bound { ReadsAtMost result buf.new }
+        ensures bytes { ReadConsumes (Self.remaining self.old) (Self.remaining self.new) result buf.new }
+        ensures answer { may_read self.old result buf.new self.new };
+}
+
+/// A writer of the standard library. Proofs can name each answer of it.
+pub trait StdWriter: Write {
+    /// Whether one call with these bytes may lead from a writer to a later one, and answer this.
+    ghost may_write: { Self → List ℕ → Result ℕ Error → Self → Type 0 };
+
+    /// Whether one flush may lead from a writer to a later one, and answer this.
+    ghost may_flush: { Self → Result (Unit {0}) Error → Self → Type 0 };
+
+    /// Writes some of the bytes, as `write` does.
+    fn write_some(&mut self, bytes: &[u8]) -> io::Result<usize>
+        ensures bound { WritesAtMost result bytes.now }
+        ensures bytes { WriteAppends (Self.contents self.old) (Self.contents self.new) result bytes.now }
+        ensures answer { may_write self.old bytes.now result self.new };
+
+    /// Writes out what it holds back, as `flush` does.
+    fn hand_on(&mut self) -> io::Result<()>
+        ensures bytes { Keeps (Self.contents self.old) (Self.contents self.new) }
+        ensures answer { may_flush self.old result self.new };
+}
+
+impl<L: Read, R: Read> StdReader for Either<L, R> {
+    ghost may_read = { any_read };
+
+    #[inline(always)]
+    fn read_some(&mut self, buf: &mut [u8]) -> io::Result<usize> {
+        self.read(buf)
+    }
+}
+
+/// The names of a folder.
+impl StdReader for <HostRuntime as Files>::Dir {
+    ghost may_read = { any_read };
+
+    #[inline(always)]
+    fn read_some(&mut self, names: &mut [u8]) -> io::Result<usize> {
+        self.read(names)
+    }
+}
+
+impl StdWriter for Stderr {
+    ghost may_write = { any_write };
+
+    ghost may_flush = { any_flush };
+
+    #[inline(always)]
+    fn write_some(&mut self, bytes: &[u8]) -> io::Result<usize> {
+        self.write(bytes)
+    }
+
+    #[inline(always)]
+    fn hand_on(&mut self) -> io::Result<()> {
+        self.flush()
+    }
+}
+
+impl<A: Allocator> StdWriter for Vec<u8, A> {
+    ghost may_write = { any_write };
+
+    ghost may_flush = { any_flush };
+
+    #[inline(always)]
+    fn write_some(&mut self, added: &[u8]) -> io::Result<usize> {
+        self.write(added)
+    }
+
+    #[inline(always)]
+    fn hand_on(&mut self) -> io::Result<()> {
+        self.flush()
+    }
+}
+
+impl<W: Write + Drop, A: Allocator> StdWriter for BufWriter<W, A> {
+    ghost may_write = { any_write };
+
+    ghost may_flush = { any_flush };
+
+    #[inline(always)]
+    fn write_some(&mut self, buf: &[u8]) -> io::Result<usize> {
+        self.write(buf)
+    }
+
+    #[inline(always)]
+    fn hand_on(&mut self) -> io::Result<()> {
+        self.flush()
+    }
+}
