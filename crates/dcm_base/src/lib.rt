@@ -35,8 +35,8 @@ mod uid;
 mod vr;
 
 pub use dcm_devices::{
-    Device, DeviceIn, DeviceOut, Measured, MemIn, MemOut, ReadFailed, Std, StdReader, StdWriter,
-    Watched, WriteFailed, flush_out, get_some, put_all, put_array, put_decimal, put_parts,
+    Device, DeviceIn, DeviceOut, Measured, MemIn, MemOut, ReadFailed, Std, Watched, WriteFailed,
+    flush_out, get_some, put_all, put_array, put_decimal, put_parts,
 };
 pub use dictionary::{
     Dictionary, ELEMENTS, ambiguous_tag, dict_vr, element, element_in, keyword, keyword_in,

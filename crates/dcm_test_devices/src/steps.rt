@@ -1,7 +1,7 @@
 // A reader that gives its bytes in steps.
 ghost use Rattle.dcm_devices.specs.StdDevice.{any_read};
 
-use dcm_base::StdReader;
+use dcm_devices::StdReader;
 use std::io;
 use std::io::{ErrorKind, Read};
 

@@ -1,7 +1,7 @@
 // A writer that fails.
 ghost use Rattle.dcm_devices.specs.StdDevice.{any_write, any_flush};
 
-use dcm_base::StdWriter;
+use dcm_devices::StdWriter;
 use std::alloc::Global;
 use std::cell::Cell;
 use std::io;

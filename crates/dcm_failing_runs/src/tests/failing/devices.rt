@@ -2,8 +2,9 @@
 ghost use Rattle.std.specs.Prelude.{◌≡◌, Some};
 ghost use Rattle.dcm_devices.specs.StdDevice.{any_write, any_flush};
 
-use dcm_base::{Device, DeviceIn, ReadFailed, Std, StdWriter, Watched};
+use dcm_base::{Device, DeviceIn, ReadFailed, Std, Watched};
 use dcm_cli::Job;
+use dcm_devices::StdWriter;
 use dcm_test_devices::{ALL, Failure, Steps};
 use dcm_test_runs::{bytes_in, job_status, memory_out};
 use std::alloc::{AllocError, Global};
