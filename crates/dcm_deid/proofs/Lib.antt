@@ -15,6 +15,7 @@ pub mod HeldValues
 pub mod MadeValues
 pub mod Forms
 pub mod Formed
+pub mod Research
 pub mod Dropped
 pub mod Kept
 pub mod Walked

@@ -1,4 +1,5 @@
 pub mod Fate
+pub mod Research
 pub mod Marks
 pub mod Deidentify
 pub mod MadeNew

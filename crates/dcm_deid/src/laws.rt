@@ -25,6 +25,8 @@ ghost use Rattle.dcm_deid.specs.declared.fate.Fate.TheVariants.{Keep, Remove};
 ghost use Rattle.dcm_deid.specs.Laws.{BarSteps, DeidentifySteps, PixelSteps};
 ghost use Rattle.dcm_deid.specs.Pairs.{Pairs};
 ghost use Rattle.dcm_deid.specs.Remains.{AreMadeAnew, IsClean, kept_of};
+ghost use Rattle.dcm_deid.specs.Research.{OthersBecomeTheSame, PatientsGetPseudonyms};
+ghost use Rattle.dcm_deid.specs.Research.{WhatSaidOfDatesGoes, WhatStaysIsMoved};
 ghost use Rattle.dcm_deid.specs.Uids.{HeadsBy, NewByKey, SetsBy, UidsAgree};
 
 /// The numbers of the table ascend, so that it has no tag twice.
@@ -113,6 +115,16 @@ pub fn made_values_have_form()
 pub fn no_date_stays()
     ensures { (options : Options) (depth : Depth) (read : ReadAs) (tag : Tag) → are_full options.dates ≡ false
         → IsDateVr (vr_in Standard tag) → fate_as options depth read tag ≢ Keep }
+{}
+
+/// With pseudonyms each PatientID becomes one, at every depth and however it was read. With moved dates each date that
+/// stays with full ones is moved, alone or with a time, and all else becomes what it becomes with full ones. The element
+/// that says what became of dates is set aside: it goes, and is put anew.
+pub fn fates_of_research()
+    ensures pseudonyms { PatientsGetPseudonyms }
+    ensures moved { WhatStaysIsMoved }
+    ensures others { OthersBecomeTheSame }
+    ensures said { WhatSaidOfDatesGoes }
 {}
 
 /// A new unique identifier is a function of the key and of the old one without its padding. Of the instance it is the
