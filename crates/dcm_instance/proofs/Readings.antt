@@ -7,7 +7,7 @@ use Rattle.dcm_base.specs.Reading.Reads.{INPUT_LIMIT}
 use Rattle.dcm_cli.specs.InputCalls.{Reader, How, in_part, to_end, with_failure, how_of, TellsHow, InputCalls, no_call, last_call, ReadsInput}
 use Rattle.dcm_cli.proofs.Passes.Passes.{read_nothing, read_twice}
 use Rattle.dcm_devices.specs.Device.{Gave, no_calls, and_call}
-use Rattle.dcm_instance.specs.Same.{Anywhere, Compares, Differ, Ends, GaveAll, GaveElse, GaveMore, GaveOther, differ, first_failed, second_failed, too_long}
+use Rattle.dcm_instance.specs.Same.{InFront, Compares, Differ, Ends, GaveAll, GaveElse, GaveMore, GaveOther, differ, first_failed, second_failed, too_long}
 
 -- ---- calls, and then others
 
@@ -36,48 +36,61 @@ module _ {R : Type 0} (r : Reader R) where
     unread = b.unread ∙ a.unread;
   }
 
-  -- all calls gave bytes
-  pub read_so : (old new : R) (given : List ℕ) → GaveAll r old new given → ReadsInput r Anywhere old given in_part new
-  read_so old new given g = record {
-    calls = by_calls given g.calls;
+  -- all calls gave bytes, each before the last the front of others
+  pub called_so : (other : List ℕ) (old mid new : R) (front piece : List ℕ) → Gave r.gets old front mid → InFront other front → r.gets mid (Some piece) new → 0 < length piece
+      → r.remaining old ≡ prepend_known (front ++ piece) (r.remaining new) → r.has_failed new ≡ r.has_failed old → ReadsInput r (InFront other) old (front ++ piece) in_part new
+  called_so other old mid new front piece calls in_front call some left unread = record {
+    calls = last_call front mid (Some piece) calls in_front call refl (how_given piece some);
+    left = left;
+    end = λ is. absurd (let no : in_part ≡ to_end = is in cc);
+    failed = unread;
+  }
+
+  -- or all were
+  pub read_so : (other : List ℕ) (old new : R) (given : List ℕ) → InFront other given → GaveAll r old new given → ReadsInput r (InFront other) old given in_part new
+  read_so other old new given in_front g = record {
+    calls = by_calls given g.calls in_front;
     left = g.left;
     end = λ is. absurd (let no : in_part ≡ to_end = is in cc);
     failed = g.unread;
   }
     where
-      by_calls : (bytes : List ℕ) → Gave r.gets old bytes new → InputCalls r.gets Anywhere old bytes in_part new
-      by_calls bytes (no_calls none same) = no_call none refl same
-      by_calls bytes (and_call before piece mid calls call some is) = last_call before mid (Some piece) calls tt call is (how_given piece some)
+      by_calls : (bytes : List ℕ) → Gave r.gets old bytes new → InFront other bytes → InputCalls r.gets (InFront other) old bytes in_part new
+      by_calls bytes (no_calls none same) _ = no_call none refl same
+      by_calls bytes (and_call before piece mid calls call some is) all =
+          last_call before mid (Some piece) calls (piece ++ all.0, all.1 ∙ ap (λ (bs : List ℕ). bs ++ all.0) is ∙ append_assoc before piece all.0) call is (how_given piece some)
 
   -- and then others were made
-  pub read_behind : (old mid new : R) (front given : List ℕ) (how : How) → GaveAll r old mid front → ReadsInput r Anywhere mid given how new → ReadsInput r Anywhere old (front ++ given) how new
-  read_behind old mid new front given how g h = by_calls h.calls
+  pub read_behind : (all rest : List ℕ) (old mid new : R) (front given : List ℕ) (how : How) → all ≡ front ++ rest → GaveAll r old mid front → ReadsInput r (InFront rest) mid given how new
+      → ReadsInput r (InFront all) old (front ++ given) how new
+  read_behind all rest old mid new front given how parts g h = by_calls h.calls
     where
-      by_calls : InputCalls r.gets Anywhere mid given how new → ReadsInput r Anywhere old (front ++ given) how new
+      by_calls : InputCalls r.gets (InFront rest) mid given how new → ReadsInput r (InFront all) old (front ++ given) how new
       by_calls (no_call none is same) =
-          subst (λ (h : How). ReadsInput r Anywhere old (front ++ given) h new) (sym is)
-          (subst (λ (x : R). ReadsInput r Anywhere old (front ++ given) in_part x) (sym same)
-          (subst (λ (bs : List ℕ). ReadsInput r Anywhere old bs in_part mid) (sym (ap (λ (bs : List ℕ). front ++ bs) none ∙ append-nil front)) (read_so old mid front g)))
-      by_calls (last_call before last call calls needed gets all is) = record {
-        calls = last_call (front ++ before) last call (gave_append r.gets old mid last front before g.calls calls) tt gets
-            (ap (λ (bs : List ℕ). front ++ bs) all ∙ sym (append_assoc front before (unwrap_or call []))) is;
+          subst (λ (h : How). ReadsInput r (InFront all) old (front ++ given) h new) (sym is)
+          (subst (λ (x : R). ReadsInput r (InFront all) old (front ++ given) in_part x) (sym same)
+          (subst (λ (bs : List ℕ). ReadsInput r (InFront all) old bs in_part mid) (sym (ap (λ (bs : List ℕ). front ++ bs) none ∙ append-nil front)) (read_so all old mid front (rest, parts) g)))
+      by_calls (last_call before last call calls needed gets whole is) = record {
+        calls = last_call (front ++ before) last call (gave_append r.gets old mid last front before g.calls calls)
+            (needed.0, parts ∙ ap (λ (bs : List ℕ). front ++ bs) needed.1 ∙ sym (append_assoc front before needed.0)) gets
+            (ap (λ (bs : List ℕ). front ++ bs) whole ∙ sym (append_assoc front before (unwrap_or call []))) is;
         left = read_twice _ _ _ front given g.left h.left;
         end = h.end;
         failed = subst (λ (f : Bool). TellsHow f (r.has_failed new) how) g.unread h.failed;
       }
 
   -- it has ended, or failed
-  pub ended_so : (old new : R) → IsAtEnd (r.remaining new) → r.remaining old ≡ prepend_known [] (r.remaining new) → r.gets old (Some []) new → r.has_failed new ≡ r.has_failed old → ReadsInput r Anywhere old [] to_end new
-  ended_so old new over left call unread = record {
-    calls = last_call [] old (Some []) (no_calls refl refl) tt call refl refl;
+  pub ended_so : (other : List ℕ) (old new : R) → IsAtEnd (r.remaining new) → r.remaining old ≡ prepend_known [] (r.remaining new) → r.gets old (Some []) new → r.has_failed new ≡ r.has_failed old → ReadsInput r (InFront other) old [] to_end new
+  ended_so other old new over left call unread = record {
+    calls = last_call [] old (Some []) (no_calls refl refl) (other, refl) call refl refl;
     left = left;
     end = λ is. over;
     failed = unread;
   }
 
-  pub failed_so : (old new : R) → r.remaining new ≡ r.remaining old → r.gets old None new → r.has_failed new ≡ true → ReadsInput r Anywhere old [] with_failure new
-  failed_so old new same call failed = record {
-    calls = last_call [] old None (no_calls refl refl) tt call refl refl;
+  pub failed_so : (other : List ℕ) (old new : R) → r.remaining new ≡ r.remaining old → r.gets old None new → r.has_failed new ≡ true → ReadsInput r (InFront other) old [] with_failure new
+  failed_so other old new same call failed = record {
+    calls = last_call [] old None (no_calls refl refl) (other, refl) call refl refl;
     left = sym same ∙ read_nothing (r.remaining new);
     end = λ is. absurd (let no : with_failure ≡ to_end = is in cc);
     failed = failed;
@@ -117,16 +130,16 @@ module _ {R : Type 0} (r : Reader R) (old new : R) where
       by_size : ((nat_eq n 0 ≡ true) × (n ≡ 0)) ⊎ ((nat_eq n 0 ≡ false) × (n ≢ 0)) → Ends r old new (nat_eq n 0)
       by_size (inl e) =
           subst (Ends r old new) (sym e.0)
-          (ended_so r old new (over e.1) (subst (λ (m : ℕ). r.remaining old ≡ prepend_known (take m buffer) (r.remaining new)) e.1 left) (subst (λ (m : ℕ). r.gets old (Some (take m buffer)) new) e.1 call) unread)
+          (ended_so r [] old new (over e.1) (subst (λ (m : ℕ). r.remaining old ≡ prepend_known (take m buffer) (r.remaining new)) e.1 left) (subst (λ (m : ℕ). r.gets old (Some (take m buffer)) new) e.1 call) unread)
       by_size (inr e) =
           let size = length-take-le n buffer le in
           let not_none = e.1 in
           let some : 0 < length (take n buffer) = omega (arith, size, not_none) in
           subst (Ends r old new) (sym e.0)
-          (record { given = take n buffer; how = in_part; reads = read_so r old new (take n buffer) (one_gave r old new (take n buffer) call some left unread); other = inr (more_there (take n buffer) some) })
+          (record { given = take n buffer; how = in_part; reads = called_so r [] old old new [] (take n buffer) (no_calls refl refl) ([], refl) call some left unread; other = inr (more_there (take n buffer) some) })
 
   pub failed_by : r.remaining new ≡ r.remaining old → r.gets old None new → r.has_failed new ≡ true → GaveMore r old new
-  failed_by same call failed = record { given = []; how = with_failure; reads = failed_so r old new same call failed; other = inl refl }
+  failed_by same call failed = record { given = []; how = with_failure; reads = failed_so r [] old new same call failed; other = inl refl }
 
 -- ---- whether it gives some bytes
 
@@ -139,7 +152,7 @@ module _ {R : Type 0} (r : Reader R) (old mid new : R) (front : List ℕ) (gave 
       empty_of (b ∷ bs) e = absurd (omega (arith, e))
 
   pub failed_wanted : r.remaining new ≡ r.remaining mid → r.gets mid None new → r.has_failed new ≡ true → GaveElse r old new wanted
-  failed_wanted same call failed = record { given = front ++ []; how = with_failure; reads = read_behind r old mid new front [] with_failure gave (failed_so r mid new same call failed); other = inl refl }
+  failed_wanted same call failed = record { given = front ++ []; how = with_failure; reads = read_behind r wanted rest old mid new front [] with_failure whole gave (failed_so r rest mid new same call failed); other = inl refl }
 
   differs : (given : List ℕ) (how : How) → Differ rest in_part given how → Differ wanted in_part (front ++ given) how
   differs given how d = subst (λ (bs : List ℕ). Differ bs in_part (front ++ given) how) (sym whole) (differ_behind front rest given in_part how d)
@@ -148,7 +161,7 @@ module _ {R : Type 0} (r : Reader R) (old mid new : R) (front : List ℕ) (gave 
   ended_wanted some over left call unread = record {
     given = front ++ [];
     how = to_end;
-    reads = read_behind r old mid new front [] to_end gave (ended_so r mid new over left call unread);
+    reads = read_behind r wanted rest old mid new front [] to_end whole gave (ended_so r rest mid new over left call unread);
     other = inr (differs [] to_end (ended_early rest some));
   }
 
@@ -164,7 +177,7 @@ module _ {R : Type 0} (r : Reader R) (old mid new : R) (front : List ℕ) (gave 
     others_wanted le other = record {
       given = front ++ piece;
       how = in_part;
-      reads = read_so r old new (front ++ piece) gave_more;
+      reads = called_so r wanted old mid new front piece gave.calls (rest, whole) call some gave_more.left gave_more.unread;
       other = inr (differs piece in_part (other_bytes rest piece le other));
     }
 
@@ -175,8 +188,8 @@ module _ {A B : Type 0} (a : Reader A) (b : Reader B) (old mid new : A) (before 
   pub first_ended : IsAtEnd (a.remaining new) × (a.remaining new ≡ a.remaining mid) → a.gets mid (Some []) new → a.has_failed new ≡ a.has_failed mid → (t : Bool) → Ends b there after t → Compares a b old new before after t
   first_ended over call unread t ends = by_end t ends
     where
-      ended : ReadsInput a Anywhere old (front ++ []) to_end new
-      ended = read_behind a old mid new front [] to_end first (ended_so a mid new over.0 (sym over.1 ∙ read_nothing (a.remaining new)) call unread)
+      ended : (given : List ℕ) → ReadsInput a (InFront (front ++ given)) old (front ++ []) to_end new
+      ended given = read_behind a (front ++ given) given old mid new front [] to_end refl first (ended_so a given mid new over.0 (sym over.1 ∙ read_nothing (a.remaining new)) call unread)
 
       answer : (given : List ℕ) (how : How) → (how ≡ with_failure) ⊎ Differ [] to_end given how → GaveOther (front ++ []) to_end (front ++ given) how
       answer given how (inl is) = second_failed is
@@ -188,8 +201,8 @@ module _ {A B : Type 0} (a : Reader A) (b : Reader B) (old mid new : A) (before 
         first_how = to_end;
         second = front ++ [];
         second_how = to_end;
-        reads_first = ended;
-        reads_second = read_behind b before there after front [] to_end second e;
+        reads_first = ended [];
+        reads_second = read_behind b (front ++ []) [] before there after front [] to_end refl second e;
         answer_is = record { first_end = refl; second_end = refl; same = refl };
       }
       by_end false m = record {
@@ -197,8 +210,8 @@ module _ {A B : Type 0} (a : Reader A) (b : Reader B) (old mid new : A) (before 
         first_how = to_end;
         second = front ++ m.given;
         second_how = m.how;
-        reads_first = ended;
-        reads_second = read_behind b before there after front m.given m.how second m.reads;
+        reads_first = ended m.given;
+        reads_second = read_behind b (front ++ []) [] before there after front m.given m.how refl second m.reads;
         answer_is = answer m.given m.how m.other;
       }
 
@@ -209,20 +222,21 @@ module _ {A B : Type 0} (a : Reader A) (b : Reader B) (old mid new : A) (before 
     first_how = with_failure;
     second = front;
     second_how = in_part;
-    reads_first = read_behind a old mid new front [] with_failure first (failed_so a mid new same call failed);
-    reads_second = read_so b before there front second;
+    reads_first = read_behind a front [] old mid new front [] with_failure (sym (append-nil front)) first (failed_so a [] mid new same call failed);
+    reads_second = read_so b (front ++ []) before there front ([], refl) second;
     answer_is = first_failed refl;
   }
 
   -- it gave a piece, and the second others
-  pub second_others : (piece : List ℕ) → GaveAll a mid new piece → GaveElse b there after piece → Compares a b old new before after false
-  second_others piece more e = record {
+  pub second_others : (piece : List ℕ) → a.gets mid (Some piece) new → 0 < length piece → a.remaining mid ≡ prepend_known piece (a.remaining new) → a.has_failed new ≡ a.has_failed mid
+      → GaveElse b there after piece → Compares a b old new before after false
+  second_others piece call some left unread e = record {
     first = front ++ piece;
     first_how = in_part;
     second = front ++ e.given;
     second_how = e.how;
-    reads_first = read_so a old new (front ++ piece) (gave_both a old mid new front piece first more);
-    reads_second = read_behind b before there after front e.given e.how second e.reads;
+    reads_first = called_so a (front ++ e.given) old mid new front piece first.calls (e.given, refl) call some (read_twice _ _ _ front piece first.left left) (unread ∙ first.unread);
+    reads_second = read_behind b (front ++ piece) piece before there after front e.given e.how refl second e.reads;
     answer_is = answer e.given e.how e.other;
   }
     where
@@ -237,7 +251,7 @@ module _ {A B : Type 0} (a : Reader A) (b : Reader B) (old mid new : A) (before 
     first_how = in_part;
     second = front;
     second_how = in_part;
-    reads_first = read_so a old mid front first;
-    reads_second = read_so b before there front second;
+    reads_first = read_so a front old mid front ([], sym (append-nil front)) first;
+    reads_second = read_so b front before there front ([], sym (append-nil front)) second;
     answer_is = too_long long long;
   }

@@ -6,9 +6,10 @@ use Rattle.dcm_base.specs.Reading.Reads.{INPUT_LIMIT}
 use Rattle.dcm_cli.specs.InputCalls.{Reader, How, in_part, to_end, with_failure, Allows, ReadsInput}
 use Rattle.dcm_devices.specs.Device.{Gave, Tells, given as given_of}
 
--- a call may be made wherever
-abbrev pub Anywhere : List ℕ → Type 0
-Anywhere given = Unit {0}
+-- a call is made of a reader while the bytes that it gave so far are the front of those that the other one gave: it
+-- reads no further where they differ
+abbrev pub InFront : (other : List ℕ) → (given : List ℕ) → Type 0
+InFront other given = (rest : List ℕ) × (other ≡ given ++ rest)
 
 -- two readers that gave these bytes differ, whatever they still have
 abbrev pub Differ : (first : List ℕ) → How → (second : List ℕ) → How → Type 0
@@ -39,8 +40,8 @@ pub record Compares {A B : Type 0} (a : Reader A) (b : Reader B) (first_before f
   pub first_how : How
   pub second : List ℕ
   pub second_how : How
-  pub reads_first : ReadsInput a Anywhere first_before first first_how first_after
-  pub reads_second : ReadsInput b Anywhere second_before second second_how second_after
+  pub reads_first : ReadsInput a (InFront second) first_before first first_how first_after
+  pub reads_second : ReadsInput b (InFront first) second_before second second_how second_after
   pub answer_is : Answers first first_how second second_how answer
 
 -- ---- the steps
@@ -64,11 +65,11 @@ pub record GaveAll {R : Type 0} (r : Reader R) (before after : R) (bytes : List 
   pub left : r.remaining before ≡ prepend_known bytes (r.remaining after)
   pub unread : r.has_failed after ≡ r.has_failed before
 
--- or it failed, or its next bytes are others
+-- or it failed, or its next bytes are others, and none was read behind them
 pub record GaveElse {R : Type 0} (r : Reader R) (before after : R) (bytes : List ℕ) : Type 0 where
   pub given : List ℕ
   pub how : How
-  pub reads : ReadsInput r Anywhere before given how after
+  pub reads : ReadsInput r (InFront bytes) before given how after
   pub other : (how ≡ with_failure) ⊎ Differ bytes in_part given how
 
 abbrev pub Gives : {R : Type 0} → Reader R → (before after : R) → List ℕ → Bool → Type 0
@@ -79,9 +80,9 @@ Gives r before after bytes false = GaveElse r before after bytes
 pub record GaveMore {R : Type 0} (r : Reader R) (before after : R) : Type 0 where
   pub given : List ℕ
   pub how : How
-  pub reads : ReadsInput r Anywhere before given how after
+  pub reads : ReadsInput r (InFront []) before given how after
   pub other : (how ≡ with_failure) ⊎ Differ [] to_end given how
 
 abbrev pub Ends : {R : Type 0} → Reader R → (before after : R) → Bool → Type 0
-Ends r before after true = ReadsInput r Anywhere before [] to_end after
+Ends r before after true = ReadsInput r (InFront []) before [] to_end after
 Ends r before after false = GaveMore r before after

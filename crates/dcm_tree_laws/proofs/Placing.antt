@@ -252,9 +252,9 @@ compared_alike h r w all first second s same after text too f g (instance.both o
     let z = c.compared in
     let gave : bytes.GaveTheSame z.first z.first_how z.second z.second_how = gave_same same so z.answer_is in
     sym x.holds
-    ∙ all_given h one z.first z.first_how (reads_left h (as_whole h r) w all bytes.Anywhere one c.first_left z.first z.first_how z.reads_first) gave.first_end
+    ∙ all_given h one z.first z.first_how (reads_left h (as_whole h r) w all (bytes.InFront z.second) one c.first_left z.first z.first_how z.reads_first) gave.first_end
     ∙ gave.same
-    ∙ sym (all_given h other z.second z.second_how (reads_left h (as_whole h r) w all bytes.Anywhere other c.second_left z.second z.second_how z.reads_second) gave.second_end)
+    ∙ sym (all_given h other z.second z.second_how (reads_left h (as_whole h r) w all (bytes.InFront z.first) other c.second_left z.second z.second_how z.reads_second) gave.second_end)
     ∙ y.holds
 
 found_same : (o : Option Found) (f g : Found) → o ≡ Some f → o ≡ Some g → f ≡ g

@@ -345,8 +345,8 @@ compared_same h r w all first second s same after held text too f g first_is sec
     let y : IsOpened h r (s.now.bytes (number_of g.file)) other s opened = is_opened h r w second s other opened too g (subst (λ (t : FileSystem). OpensFile (working_may h r w (may_do h)) second t (Some other) opened) x.same others) in
     let z = c.compared in
     is_same same z.answer_is
-    (not_other h one other held z.first z.second z.first_how z.second_how (reads_not h r bytes.Anywhere one c.first_left z.first z.first_how z.reads_first) (reads_not h r bytes.Anywhere other c.second_left z.second z.second_how z.reads_second)
-    (reads_left h (as_whole h r) w all bytes.Anywhere one c.first_left z.first z.first_how z.reads_first) (reads_left h (as_whole h r) w all bytes.Anywhere other c.second_left z.second z.second_how z.reads_second)
+    (not_other h one other held z.first z.second z.first_how z.second_how (reads_not h r (bytes.InFront z.second) one c.first_left z.first z.first_how z.reads_first) (reads_not h r (bytes.InFront z.first) other c.second_left z.second z.second_how z.reads_second)
+    (reads_left h (as_whole h r) w all (bytes.InFront z.second) one c.first_left z.first z.first_how z.reads_first) (reads_left h (as_whole h r) w all (bytes.InFront z.first) other c.second_left z.second z.second_how z.reads_second)
     (x.holds ∙ first_is) (y.holds ∙ second_is) fits)
 
 -- two files that are the same have the same bytes
@@ -367,7 +367,7 @@ compared_bytes h r w all first second s after text too f g (instance.both one ot
     let x : IsOpened h r (s.now.bytes (number_of f.file)) one s mid = is_opened h r w first s one mid text f opens in
     let y : IsOpened h r (s.now.bytes (number_of g.file)) other s opened = is_opened h r w second s other opened too g (subst (λ (t : FileSystem). OpensFile (working_may h r w (may_do h)) second t (Some other) opened) x.same others) in
     let z = c.compared in
-    let a : Left h one z.first z.first_how = reads_left h (as_whole h r) w all bytes.Anywhere one c.first_left z.first z.first_how z.reads_first in
-    let b : Left h other z.second z.second_how = reads_left h (as_whole h r) w all bytes.Anywhere other c.second_left z.second z.second_how z.reads_second in
+    let a : Left h one z.first z.first_how = reads_left h (as_whole h r) w all (bytes.InFront z.second) one c.first_left z.first z.first_how z.reads_first in
+    let b : Left h other z.second z.second_how = reads_left h (as_whole h r) w all (bytes.InFront z.first) other c.second_left z.second z.second_how z.reads_second in
     sym x.holds ∙ ends_with (h.holds one) z.first a.rest a.whole (no_rest z.first_how a.rest z.answer_is.first_end a.allowed) ∙ z.answer_is.same
     ∙ sym (ends_with (h.holds other) z.second b.rest b.whole (no_rest z.second_how b.rest z.answer_is.second_end b.allowed)) ∙ y.holds

@@ -36,8 +36,7 @@ returns-then-not-gives g c =
     let has = came.0 in
     let some : 0 < length piece = omega (arith, long, has) in
     second_others (members g.A.Device g.A.DeviceIn) (members g.B.Device g.B.DeviceIn) c.args.first.now c.loop-compared.first c.next_piece.new.input c.args.second.now c.loop-compared.second c.gives.new.input i.front i.first_gave i.second_gave
-    piece (one_gave (members g.A.Device g.A.DeviceIn) c.loop-compared.first c.next_piece.new.input piece (rw c.in-Ok-Some.field-0-is at c.in-Ok-Some.ensures.call) some came.2 c.in-Ok-Some.ensures.failed)
-    c.if-not-gives.ensures.gives
+    piece (rw c.in-Ok-Some.field-0-is at c.in-Ok-Some.ensures.call) some came.2 c.in-Ok-Some.ensures.failed c.if-not-gives.ensures.gives
 
 pub loop-compared-preserved : goal.loop-compared-preserved
 loop-compared-preserved g c =
