@@ -2,3 +2,5 @@
 pub mod Atoms
 pub mod UpTo
 pub mod Decided
+pub mod AsFar
+pub mod Outermost

@@ -5,7 +5,7 @@ use Rattle.dcm_base.specs.declared.dictionary.Dictionary.TheVariants.{Standard}
 use Rattle.dcm_base.specs.declared.fault.Stop.{Stop as FaultAt}
 use Rattle.dcm_base.specs.declared.syntax.Coding.{Coding}
 use Rattle.dcm_base.specs.File.MetaReads.{Meta}
-use Rattle.dcm_base.specs.Reading.Bars.{PATIENT_ID, identity_bar, patient_bar}
+use Rattle.dcm_base.specs.Reading.Bars.{PATIENT_ID, identity_bar, no_bar, patient_bar}
 use Rattle.dcm_base.specs.Reading.Reads.{Reads}
 use Rattle.dcm_base.specs.Reading.Stop.{Stop, complete, refused}
 use Rattle.dcm_base.specs.Tree.Front.{Front}
@@ -64,6 +64,24 @@ PatientHasDays =
 -- is padding alone or too long
 abbrev pub patient_in : Trees → List ℕ
 patient_in set = option_map_or named_by (unpadded PATIENT_ID set) []
+
+-- A file names this patient in the outermost data set of what is read of it, be it to its end or to a fault: the first
+-- PatientID among the whole elements is a value, and this is whom it names.
+pub record NamesInSet (bytes named : List ℕ) : Type 0 where
+  pub m : Meta
+  pub group : List ℕ
+  pub coding : Coding
+  pub set : Front
+  pub stop : Stop
+  pub head : HeadIs Standard bytes m group coding
+  pub reads : Reads no_bar coding.syntax (set_at group) (drop (set_at group) bytes) set stop
+  pub named_is : patient_in (whole_of set) ≡ named
+
+-- so it is with the patient whom the days of a file are of
+abbrev pub DaysAreOfOutermost : Type 0
+DaysAreOfOutermost =
+    (key bytes : List ℕ) (d : ℤ) → FirstReads key bytes (Days d)
+    → (named : List ℕ) × NamesInSet bytes named × (named ≢ []) × (d ≡ days key named)
 
 -- where a reading stops, or the end of the input
 abbrev pub place_of : Stop → (size : ℕ) → ℕ

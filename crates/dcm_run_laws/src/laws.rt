@@ -8,7 +8,7 @@ ghost use Rattle.dcm_run_laws.specs.Laws.{ThereAndBack};
 ghost use Rattle.dcm_run_laws.specs.DumpBuilds.{DumpBuilds};
 ghost use Rattle.dcm_run_laws.specs.NoEdits.{NoEditsConvert};
 ghost use Rattle.dcm_run_laws.specs.FirstLaws.{FirstEndsOnce, FirstEnds, DaysAreOfPatient, PatientHasDays};
-ghost use Rattle.dcm_run_laws.specs.FirstLaws.{FirstReadingDecides, FirstReadingStays};
+ghost use Rattle.dcm_run_laws.specs.FirstLaws.{DaysAreOfOutermost, FirstReadingDecides, FirstReadingStays};
 ghost use Rattle.dcm_run_laws.specs.FirstLaws.{OnePatientOneMove, MovesBack, NothingFlowsByKey};
 ghost use Rattle.dcm_run_laws.specs.Flows.{NothingFlows};
 
@@ -115,10 +115,12 @@ pub fn first_reading_decides()
     ensures decides { FirstReadingDecides }
 {}
 
-/// The days that the key makes of a file are those of the patient whom its outermost PatientID names. So two files of
-/// one patient are moved by the same days under one key: 1 to 3,652 days into the past.
+/// The days that the key makes of a file are those of the patient whom its outermost PatientID names. That is a whole
+/// value of the outermost data set, be the file read to its end or to a fault. So two files of one patient are moved by
+/// the same days under one key: 1 to 3,652 days into the past.
 pub fn one_patient_one_move()
     ensures of_patient { DaysAreOfPatient }
+    ensures of_outermost { DaysAreOfOutermost }
     ensures has_days { PatientHasDays }
     ensures one { OnePatientOneMove }
     ensures back { MovesBack }

@@ -49,7 +49,7 @@ by_length v true e =
     too_long b true is h = let few = leb-true (length b) 256 is in absurd (omega (arith, few, h))
     too_long b false is h = sym (ap (λ (c : Bool). if c then without_spaces_before b else []) is)
 
-value_names : (tag : Tag) (vr : Vr) (s : Syntax) (v : List ℕ) → patient_held (fold held_with (nothing_held Keep tag vr s) (order s vr v)) ≡ patient_of (without_pads v)
+pub value_names : (tag : Tag) (vr : Vr) (s : Syntax) (v : List ℕ) → patient_held (fold held_with (nothing_held Keep tag vr s) (order s vr v)) ≡ patient_of (without_pads v)
 value_names tag vr s v =
     ap patient_held (held_whole Keep tag vr s v)
     ∙ ap (λ (x : List ℕ). if longer_after false (drop 256 v) then [] else patient x) (order_twice s vr (take 256 v))
@@ -57,17 +57,17 @@ value_names tag vr s v =
 
 -- ---- what changes nothing
 
-abbrev at : ℕ → Naming → Held → PatientState
+abbrev pub at : ℕ → Naming → Held → PatientState
 at d n h = record { depth = d; naming = n; held = h }
 
 -- no value is open of which bytes are held
-abbrev NotOpen : Naming → Type 0
+abbrev pub NotOpen : Naming → Type 0
 NotOpen NotYet = Unit {0}
 NotOpen Opened = ⊥
 NotOpen Ended = Unit {0}
 NotOpen Nobody = Unit {0}
 
-not_held : (n : Naming) (h : Held) (v : List ℕ) → NotOpen n → held_where n h v ≡ h
+pub not_held : (n : Naming) (h : Held) (v : List ℕ) → NotOpen n → held_where n h v ≡ h
 not_held NotYet h v k = refl
 not_held Opened h v k = absurd k
 not_held Ended h v k = refl
@@ -79,27 +79,27 @@ not_ended Opened k = absurd k
 not_ended Ended k = refl
 not_ended Nobody k = refl
 
-opened_is : (d : ℕ) → d ≤ 200 → opened d true ≡ suc d
+pub opened_is : (d : ℕ) → d ≤ 200 → opened d true ≡ suc d
 opened_is zero h = refl
 opened_is (suc k) h = omega (arith, h)
 
 module _ (n : Naming) (h : Held) (closed_one : NotOpen n) where
-  bytes_pass : (d : ℕ) (v : List ℕ) (others : List Atom) → fold patient_next (at d n h) (map value_byte v ++ others) ≡ fold patient_next (at d n h) others
+  pub bytes_pass : (d : ℕ) (v : List ℕ) (others : List Atom) → fold patient_next (at d n h) (map value_byte v ++ others) ≡ fold patient_next (at d n h) others
   bytes_pass d v others =
       fold-append patient_next (at d n h) (map value_byte v) others
       ∙ ap (λ (p : PatientState). fold patient_next p others) (bytes_held v d n h ∙ ap (at d n) (not_held n h v closed_one))
 
-  leaf_closes : (d : ℕ) (others : List Atom) → fold patient_next (at (suc d) n h) (closes_leaf ∷ others) ≡ fold patient_next (at d n h) others
+  pub leaf_closes : (d : ℕ) (others : List Atom) → fold patient_next (at (suc d) n h) (closes_leaf ∷ others) ≡ fold patient_next (at d n h) others
   leaf_closes d others = ap (λ (m : Naming). fold patient_next (at d m h) others) (not_ended n closed_one)
 
   head_passes : (d : ℕ) (tag : Tag) (vr : Vr) (l : Length) (s : Syntax) → d ≤ 200 → looks_at d n ≡ false → patient_next (at d n h) (opens tag vr l s) ≡ at (suc d) n h
   head_passes d tag vr l s few looks =
       ap (λ (b : Bool). at_depth (opened d true) (if b then at_head (at d n h) tag vr l s else at d n h)) looks ∙ ap (λ (k : ℕ). at k n h) (opened_is d few)
 
-  into : (d : ℕ) (tag : Tag) (vr : Vr) (l : Length) (s : Syntax) (others : List Atom) → d ≤ 200 → looks_at d n ≡ false → fold patient_next (at d n h) (opens tag vr l s ∷ others) ≡ fold patient_next (at (suc d) n h) others
+  pub into : (d : ℕ) (tag : Tag) (vr : Vr) (l : Length) (s : Syntax) (others : List Atom) → d ≤ 200 → looks_at d n ≡ false → fold patient_next (at d n h) (opens tag vr l s ∷ others) ≡ fold patient_next (at (suc d) n h) others
   into d tag vr l s others few looks = ap (λ (p : PatientState). fold patient_next p others) (head_passes d tag vr l s few looks)
 
-  fragments_pass : (d : ℕ) (values : List (List ℕ)) (others : List Atom) → d ≤ 200 → fold patient_next (at d n h) (fragments_then values others) ≡ fold patient_next (at d n h) others
+  pub fragments_pass : (d : ℕ) (values : List (List ℕ)) (others : List Atom) → d ≤ 200 → fold patient_next (at d n h) (fragments_then values others) ≡ fold patient_next (at d n h) others
   unfolding fragments_then
   fragments_pass d [] others few = refl
   fragments_pass d (v ∷ values) others few =
@@ -111,7 +111,7 @@ module _ (n : Naming) (h : Held) (closed_one : NotOpen n) where
   mutual
     unfolding ShowTrees
 
-    trees_pass : (x : Trees) (lists d : ℕ) (atoms after : List Atom) → ShowTrees x atoms after → StaysShallow lists atoms → d ≤ 2 * lists → looks_at d n ≡ false → fold patient_next (at d n h) atoms ≡ fold patient_next (at d n h) after
+    pub trees_pass : (x : Trees) (lists d : ℕ) (atoms after : List Atom) → ShowTrees x atoms after → StaysShallow lists atoms → d ≤ 2 * lists → looks_at d n ≡ false → fold patient_next (at d n h) atoms ≡ fold patient_next (at d n h) after
     trees_pass no_tree lists d atoms after w k le looks = ap (fold patient_next (at d n h)) w
     trees_pass (leaf tag vr value rest) lists d atoms after w k le looks =
         let few : lists ≤ 64 = k [] atoms refl in
@@ -139,7 +139,7 @@ module _ (n : Naming) (h : Held) (closed_one : NotOpen n) where
         ∙ fragments_pass (suc d) values (closes_sequence ∷ w.1) (omega (arith, few, le))
         ∙ trees_pass rest lists d w.1 after w.4 more le looks
 
-    items_pass : (x : Items) (lists d : ℕ) (atoms after : List Atom) → ShowItems x atoms after → StaysShallow (suc lists) atoms → d ≤ 2 * lists → fold patient_next (at (suc d) n h) atoms ≡ fold patient_next (at (suc d) n h) after
+    pub items_pass : (x : Items) (lists d : ℕ) (atoms after : List Atom) → ShowItems x atoms after → StaysShallow (suc lists) atoms → d ≤ 2 * lists → fold patient_next (at (suc d) n h) atoms ≡ fold patient_next (at (suc d) n h) after
     items_pass no_item lists d atoms after w k le = ap (fold patient_next (at (suc d) n h)) w
     items_pass (item declared set rest) lists d atoms after w k le =
         let few : suc lists ≤ 64 = k [] atoms refl in
@@ -175,31 +175,31 @@ none_above t (fragments u vr values rest) a e = none_above u rest a.1 (still_abo
 abbrev pub Tells : PatientState → List ℕ → Type 0
 Tells p named = ((p.naming ≡ Ended) × (patient_held p.held ≡ named)) ⊎ (((p.naming ≡ Nobody) ⊎ (p.naming ≡ NotYet)) × (named ≡ []))
 
-abbrev named : Option (List ℕ) → List ℕ
+abbrev pub named : Option (List ℕ) → List ℕ
 named value = option_map_or patient_of value []
 
 -- the head of an element of the outermost data set
-head_told : (h : Held) (tag : Tag) (vr : Vr) (l : Length) (s : Syntax) (f : Form) (m : Naming) (others : List Atom) → form_after tag vr l s ≡ f → naming_at tag f ≡ m
+pub head_told : (h : Held) (tag : Tag) (vr : Vr) (l : Length) (s : Syntax) (f : Form) (m : Naming) (others : List Atom) → form_after tag vr l s ≡ f → naming_at tag f ≡ m
     → fold patient_next (at 0 NotYet h) (opens tag vr l s ∷ others) ≡ fold patient_next (at 1 m (nothing_held Keep tag vr s)) others
 head_told h tag vr l s f m others e is = ap (λ (g : Form). fold patient_next (at 1 (naming_at tag g) (nothing_held Keep tag vr s)) others) e ∙ ap (λ (k : Naming). fold patient_next (at 1 k (nothing_held Keep tag vr s)) others) is
 
-is_not_yet : (tag : Tag) (f : Form) → below tag PATIENT_ID ≡ true → naming_at tag f ≡ NotYet
+pub is_not_yet : (tag : Tag) (f : Form) → below tag PATIENT_ID ≡ true → naming_at tag f ≡ NotYet
 is_not_yet tag f e = ap (λ (c : Bool). if c then NotYet else if names_patient tag f then Opened else Nobody) e
 
-is_opened : (tag : Tag) → below tag PATIENT_ID ≡ false → same_tag tag PATIENT_ID ≡ true → naming_at tag a_value ≡ Opened
+pub is_opened : (tag : Tag) → below tag PATIENT_ID ≡ false → same_tag tag PATIENT_ID ≡ true → naming_at tag a_value ≡ Opened
 is_opened tag e same =
     ap (λ (c : Bool). if c then NotYet else if names_patient tag a_value then Opened else Nobody) e
     ∙ ap (λ (c : Bool). if c && true then Opened else Nobody) same
 
-is_nobody : (tag : Tag) (f : Form) → below tag PATIENT_ID ≡ false → names_patient tag f ≡ false → naming_at tag f ≡ Nobody
+pub is_nobody : (tag : Tag) (f : Form) → below tag PATIENT_ID ≡ false → names_patient tag f ≡ false → naming_at tag f ≡ Nobody
 is_nobody tag f e other =
     ap (λ (c : Bool). if c then NotYet else if names_patient tag f then Opened else Nobody) e ∙ ap (λ (c : Bool). if c then Opened else Nobody) other
 
-no_value : (c : Bool) → (c && false) ≡ false
+pub no_value : (c : Bool) → (c && false) ≡ false
 no_value true = refl
 no_value false = refl
 
-same_with : (c : Bool) → c ≡ false → (c && true) ≡ false
+pub same_with : (c : Bool) → c ≡ false → (c && true) ≡ false
 same_with true e = absurd (cc)
 same_with false e = refl
 
