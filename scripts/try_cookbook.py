@@ -575,7 +575,7 @@ BLOCKS = [
     Block("    dcmtools dcmodify +dict -m 'DoseReferenceSequence", corrected_plan, replaces=b"plan.dcm"),
     Block("dcmtools dcmodify +dict -m 'PatientName=Doe^Jane' +r", corrected_names, folder=b"fixed"),
     Block("    name=$(printf", latin_name, needs=("iconv",), replaces=b"scan.dcm"),
-    Block("    (umask 077; > deidentified.csv)", identity_of_tree, folder=b"deidentified"),
+    Block("    (umask 077; set -C; > deidentified.csv)", identity_of_tree, folder=b"deidentified"),
     Block("    find deidentified/ -type f", identity_left, with_outputs, sound=with_sound_outputs),
     Block("    dcmtools dcmdeid +k site.key scan.dcm - |", identity_replaced),
     Block("dcmtools dcmdeid +k site.key +pi +rm key", moved_by_key, with_key, sound=with_key),

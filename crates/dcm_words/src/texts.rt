@@ -26,7 +26,8 @@ input or standard output. Of options that conflict the last one wins.
 Exit status:
   0  done
   1  the command line is refused, and no file was opened
-  2  the input is at fault, at the byte that is named; what comes before it was written
+  2  the input is at fault, at the byte that is named; what comes before it was written, but not
+     by dcmdeid to a file, nor with +r
   3  an edit found no place, and all else was done and written; or pixels may show identity
   4  a file could not be opened, read or written
   5  out of memory
