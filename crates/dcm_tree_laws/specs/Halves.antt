@@ -28,9 +28,10 @@ use Rattle.dcm_tree_laws.specs.Whole.{NoneHalfSoFar}
 
 -- ---- a file that is read
 
--- a name below the folder that a run is over, or one of the lines of its list
+-- a name in the folder that a run is over, whose path is that of its relative name below the folder; or one of the lines
+-- of its list
 pub data IsOfSource (source : Source) (n : Named) : Type 0 where
-  in_folder : (path relative : List ℕ) → source ≡ folder path → n.path ≡ below path relative → IsOfSource source n
+  in_folder : (path : List ℕ) → source ≡ folder path → n.path ≡ below path n.relative → IsOfSource source n
   in_list : (path : List ℕ) → source ≡ list path → n ≡ named_line n.name → IsOfSource source n
 
 -- links are followed where a list names a file, and not where it is in a folder
