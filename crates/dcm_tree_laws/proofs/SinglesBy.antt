@@ -24,8 +24,8 @@ use Rattle.dcm_trees.specs.Opening.{OpensFile}
 use Rattle.dcm_trees.specs.Task as tasks
 use Rattle.dcm_trees.specs.Task.{Task, by_days, days_of, TakesDays, FindsJob, task_of}
 use Rattle.dcm_tree_laws.specs.FileSystem.{FileSystem, Tree, Host, number_of, place_of, may_do}
-use Rattle.dcm_tree_laws.specs.Single.{IsJobOf, of_all, of_days, IsAnswered, as_held, IsSingle, HasSingle, SingleRuns, SingleRunsOfList}
-use Rattle.dcm_tree_laws.proofs.Answered.{Gives, finishes_gives}
+use Rattle.dcm_tree_laws.specs.Single.{IsJobOf, of_all, of_days, IsWholeAnswer, as_held, IsSingle, HasSingle, SingleRuns, SingleRunsOfList}
+use Rattle.dcm_tree_laws.proofs.Answered.{GivesDone, finishes_gives}
 use Rattle.dcm_tree_laws.proofs.Held.{GivesAll, held_gives, Left, reads_left}
 use Rattle.dcm_tree_laws.proofs.Jobs.{finds_job}
 use Rattle.dcm_tree_laws.proofs.Looking.{same_ok}
@@ -75,12 +75,17 @@ job_is h r w all task path s job after bytes (tasks.no_days options reports key 
 -- what an output took of a job that was done of the file at a path is its answer
 pub answered : {I O : Type 0} (h : Host I O) (r : Reader I) (w : Writer O) → GivesAll h r w → (task : Task) (path : List ℕ) (s mid : FileSystem) (job : Job) (input : I) (opened : FileSystem) (left : I) (made written : O) (ending : Ending)
     → FindsJob (may_do h) r task path s (Ok job) mid → OpensFile (may_do h) path mid (Some input) opened → h.took made ≡ [] → Finishes r w job input left made written ending → is_written (ending_fate ending) ≡ true
-    → (bytes : List ℕ) → ((input : I) (opened : FileSystem) → OpensFile (may_do h) path s (Some input) opened → h.holds input ≡ bytes) → IsAnswered task bytes (h.took written)
+    → (bytes : List ℕ) → ((input : I) (opened : FileSystem) → OpensFile (may_do h) path s (Some input) opened → h.holds input ≡ bytes) → IsWholeAnswer task bytes (h.took written)
 answered h r w all task path s mid job input opened left made written ending f o new finished done bytes holds =
     let same : mid ≡ s = finds_job h r task path s (Ok job) mid f in
-    let x : Gives job bytes (h.took written) = subst (λ (b : List ℕ). Gives job b (h.took written))
+    let x : GivesDone job bytes (h.took written) = subst (λ (b : List ℕ). GivesDone job b (h.took written))
     (holds input opened (subst (λ (t : FileSystem). OpensFile (may_do h) path t (Some input) opened) same o)) (finishes_gives h r w all job input left made written ending new finished done) in
-    record { job = job; is_job = job_is h r w all task path s job mid bytes f holds; answer = x.a; answers = x.answers; output_is = x.output_is }
+    record {
+      answered = record { job = job; is_job = job_is h r w all task path s job mid bytes f holds; answer = x.gives.a; answers = x.gives.answers; output_is = x.gives.output_is };
+      verdict = x.verdict;
+      comes_to = x.comes_to;
+      done = x.done;
+    }
 
 -- the file that was there at the start is what an input holds that is opened later
 held_since : {I O : Type 0} (h : Host I O) (part path : List ℕ) (start : Tree) (s : FileSystem) → Still h part start s.now → (read : Found) → start.at (h.leads Followed path) ≡ Some read → read.kind ≡ kinds.File → h.leads Followed path ≢ place_of h part

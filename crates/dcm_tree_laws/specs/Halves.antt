@@ -22,7 +22,7 @@ use Rattle.dcm_trees.specs.Task.{Task, same, task_of, FindsJob}
 use Rattle.dcm_trees.specs.Tree.{DoesTree}
 use Rattle.dcm_tree_laws.specs.FileSystem.{FileSystem, Host, Tree, number_of, begins, may_do}
 use Rattle.dcm_tree_laws.specs.Laws.{over, part_path, part_of_tree}
-use Rattle.dcm_tree_laws.specs.Single.{IsAnswered, TellsAll, as_held}
+use Rattle.dcm_tree_laws.specs.Single.{IsWholeAnswer, TellsAll, as_held}
 use Rattle.dcm_tree_laws.specs.Stays.{Stays, AlwaysSoFar}
 use Rattle.dcm_tree_laws.specs.Whole.{NoneHalfSoFar}
 
@@ -94,7 +94,8 @@ NeverHalf {I} {O} {W} {E} F reader output rows errors =
 
 -- ---- the answer to its bytes
 
--- these bytes are what a single run writes of those of the file, and the mode is what is left of that of the file
+-- these bytes are what a single run writes of those of the file, where that is done; and the mode is what is left of
+-- that of the file
 pub record IsAnswerOf {I O : Type 0} (h : Host I O) (source : Source) (task : Task) (part output : List ℕ)
     (start : Tree) (earlier : List Tree) (mode : ℕ) (bytes : List ℕ) : Type 0 where
   pub name : Named
@@ -102,7 +103,7 @@ pub record IsAnswerOf {I O : Type 0} (h : Host I O) (source : Source) (task : Ta
   pub read : IsAtName h source part output start earlier name state
   pub mode_is : mode ≡ h.masked read.file.mode
   pub answered : (f : Found) → state.now.at (h.leads Followed name.path) ≡ Some f → f.kind ≡ kinds.File
-      → IsAnswered task (state.now.bytes (number_of f)) bytes
+      → IsWholeAnswer task (state.now.bytes (number_of f)) bytes
 
 -- so it is where each call of a reader gives what the file that was opened holds, and an output tells all that it took
 abbrev pub NeverHalfOfBytes : {I O W E : Type 0} → (F : Type 0) → Reader I → Writer O → Writer W → Writer E → Type 0

@@ -1,5 +1,5 @@
 -- The outputs of a run over a tree are those of single runs.
-use Rattle.std.specs.Prelude.{◌≡◌, ◌≢◌, ℕ, ℤ, List, [], ◌++◌, Bool, Option, Some, None}
+use Rattle.std.specs.Prelude.{◌≡◌, ◌≢◌, ℕ, ℤ, List, [], ◌++◌, Bool, true, Option, Some, None}
 use Rattle.std.specs.Io.KnownBytes.{append_known}
 use Rattle.dcm_deid.specs.declared.fate.Options.{Options}
 use Rattle.dcm_devices.specs.Writing.{Writer}
@@ -14,10 +14,14 @@ use Rattle.dcm_words.specs.Words.{Job, deidentify, with_days}
 use Rattle.dcm_cli.specs.Answer.{Answer, Answers}
 use Rattle.dcm_cli.specs.Calls.{Reader}
 use Rattle.dcm_cli.specs.First.{FirstReads}
+use Rattle.dcm_cli.specs.Run.{Answered}
+use Rattle.dcm_cli.specs.declared.ending.Verdict.{Verdict}
 use Rattle.dcm_cli.specs.declared.first.FirstEnd.TheVariants.{Days}
 use Rattle.dcm_trees.specs.declared.beginning.Begun.{Begun}
 use Rattle.dcm_trees.specs.declared.file.Done.{Done}
 use Rattle.dcm_trees.specs.declared.run.TreeRun.{TreeRun}
+use Rattle.dcm_trees.specs.Fate.{is_written}
+use Rattle.dcm_trees.specs.Lines.{verdict_fate}
 use Rattle.dcm_trees.specs.Task.{Task, same, by_days, task_of}
 use Rattle.dcm_trees.specs.Tree.{VisitsAll, VisitsListed}
 use Rattle.dcm_trees.specs.Work.{visits_of}
@@ -45,6 +49,14 @@ pub record IsAnswered (task : Task) (bytes output : List ℕ) : Type 0 where
   pub answers : Answers job bytes answer
   pub output_is : output ≡ answer.output
 
+-- and what its work comes to is one that is written: the file is not refused at some byte, nor held back since its
+-- pixels may show identity
+pub record IsWholeAnswer (task : Task) (bytes output : List ℕ) : Type 0 where
+  pub answered : IsAnswered task bytes output
+  pub verdict : Verdict
+  pub comes_to : Answered answered.job bytes output verdict
+  pub done : is_written (verdict_fate verdict) ≡ true
+
 -- ---- the output of a name
 
 -- what a call of a reader gives is the front of what its input has still to give, and is nothing only at the end
@@ -67,7 +79,7 @@ TellsAll {I} {O} h output = (o : O) → output.contents o ≡ Some (h.took o)
 
 -- a file of this mode, with these bytes, is the output of a name: its mode is what is left of that of the file that was
 -- found there, which is that of what was there at the start; and its bytes are what a single run writes of the file that
--- was there at the start, links followed. The place of the run's own part is set aside
+-- was there at the start, links followed, where that is done. The place of the run's own part is set aside
 pub record IsSingle {I O : Type 0} (h : Host I O) (links : Links) (part : List ℕ) (task : Task) (start : Tree)
     (v : Visit) (mode : ℕ) (bytes : List ℕ) : Type 0 where
   pub found : ℕ
@@ -76,7 +88,7 @@ pub record IsSingle {I O : Type 0} (h : Host I O) (links : Links) (part : List �
   pub mode_of : (read : Found) → start.at (h.leads links v.named.path) ≡ Some read
       → h.leads links v.named.path ≢ place_of h part → mode ≡ h.masked read.mode
   pub answered : (read : Found) → start.at (h.leads Followed v.named.path) ≡ Some read → read.kind ≡ kinds.File
-      → h.leads Followed v.named.path ≢ place_of h part → IsAnswered task (start.bytes (number_of read)) bytes
+      → h.leads Followed v.named.path ≢ place_of h part → IsWholeAnswer task (start.bytes (number_of read)) bytes
 
 -- what became of a name in a run says that its output was written only where such a file is there
 abbrev pub HasSingle : {I O : Type 0} → Host I O → Links → (part output : List ℕ) → Task → (start now : Tree) → Visit

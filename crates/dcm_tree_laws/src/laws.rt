@@ -7,7 +7,7 @@ ghost use Rattle.dcm_tree_laws.specs.Copied.{CopiesAreThere, CopiesAreThereOfLis
 ghost use Rattle.dcm_tree_laws.specs.Copied.{SecondIsAsItWas, SecondIsAsItWasOfList};
 ghost use Rattle.dcm_tree_laws.specs.Copies.{CopyIsLeft, UnnamedIsLeft, AgainIsAsItWas, AgainIsAsItWasOfList};
 ghost use Rattle.dcm_tree_laws.specs.Course.{RunsBeginSo, RunsOfHeldBeginSo, SureRunsBeginSo, WorkingRunsBeginSo};
-ghost use Rattle.dcm_tree_laws.specs.Determined.{OneEnd, EndIsAnswer, OneInstance};
+ghost use Rattle.dcm_tree_laws.specs.Determined.{OneEnd, EndIsAnswer, DoneIsAnswer, OneInstance};
 ghost use Rattle.dcm_tree_laws.specs.Distinct.{OutputsAreDistinct, OutputsAreDistinctOfList};
 ghost use Rattle.dcm_tree_laws.specs.Flows.{NoNameFlows, SameBecomes};
 ghost use Rattle.dcm_tree_laws.specs.Kept.{AgainIsKept, AgainIsKeptOfList, KeptIsThere, KeptIsThereOfList};
@@ -127,6 +127,7 @@ pub fn again_is_still<I: DeviceIn, O: DeviceOut, W: DeviceOut, E: DeviceOut, F>(
 pub fn bytes_say_the_end()
     ensures end { OneEnd }
     ensures answer { EndIsAnswer }
+    ensures done { DoneIsAnswer }
     ensures instance { OneInstance }
 {}
 
