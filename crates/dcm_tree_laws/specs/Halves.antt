@@ -22,7 +22,7 @@ use Rattle.dcm_trees.specs.Opening.{OpensFile}
 use Rattle.dcm_trees.specs.Program.{ObeysTree, keyed_task}
 use Rattle.dcm_trees.specs.Task.{Task, same, task_of, FindsJob}
 use Rattle.dcm_trees.specs.Tree.{DoesTree}
-use Rattle.dcm_tree_laws.specs.FileSystem.{FileSystem, Host, Tree, number_of, begins, may_do}
+use Rattle.dcm_tree_laws.specs.FileSystem.{FileSystem, Host, Tree, WasState, number_of, begins, may_do}
 use Rattle.dcm_tree_laws.specs.Laws.{over, part_path, part_of_tree}
 use Rattle.dcm_tree_laws.specs.Single.{IsWholeAnswer, TellsAll, as_held}
 use Rattle.dcm_tree_laws.specs.Stays.{Stays, AlwaysSoFar}
@@ -40,11 +40,6 @@ pub data IsOfSource (source : Source) (n : Named) : Type 0 where
 abbrev pub links_of : Source → Links
 links_of (folder path) = Kept
 links_of (list path) = Followed
-
--- a run whose trees were these, the latest first, had this state: they are those up to it, and some later ones
-pub record WasState (trees : List Tree) (s : FileSystem) : Type 0 where
-  pub later : List Tree
-  pub trees_are : trees ≡ later ++ s.now ∷ s.earlier
 
 -- at such a state, while no file is being written, a regular file is at the path of such a name. What was at the start
 -- is there, so that the file is one of the start, or one in OUTPUT

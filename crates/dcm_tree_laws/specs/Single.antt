@@ -1,5 +1,5 @@
 -- The outputs of a run over a tree are those of single runs.
-use Rattle.std.specs.Prelude.{◌≡◌, ◌≢◌, ℕ, ℤ, List, [], ◌++◌, Bool, true, Option, Some, None}
+use Rattle.std.specs.Prelude.{◌≡◌, ◌≢◌, ℕ, ℤ, List, [], ◌++◌, Bool, true, false, Option, Some, None, Ok}
 use Rattle.std.specs.Io.KnownBytes.{append_known}
 use Rattle.dcm_deid.specs.declared.fate.Options.{Options}
 use Rattle.dcm_devices.specs.Writing.{Writer}
@@ -7,6 +7,8 @@ use Rattle.dcm_files.specs.declared.folders.Found.{Found}
 use Rattle.dcm_files.specs.declared.folders.FoundKind.TheVariants as kinds
 use Rattle.dcm_files.specs.declared.folders.Links.{Links}
 use Rattle.dcm_files.specs.declared.folders.Links.TheVariants.{Kept, Followed}
+use Rattle.dcm_instance.specs.ReadInstance.{FileNames}
+use Rattle.dcm_instance.specs.Uids.{Uids}
 use Rattle.dcm_walk.specs.Folder.{WalksFolder}
 use Rattle.dcm_walk.specs.List.{WalksList}
 use Rattle.dcm_walk.specs.declared.visitor.What.TheVariants.{File}
@@ -28,7 +30,7 @@ use Rattle.dcm_trees.specs.Work.{visits_of}
 use Rattle.dcm_tree_laws.specs.FileSystem.{FileSystem, Tree, Host, number_of, place_of, folders_do}
 use Rattle.dcm_tree_laws.specs.Laws.{over, part_path}
 use Rattle.dcm_tree_laws.specs.OneRow.{RowsOf}
-use Rattle.dcm_tree_laws.specs.Outputs.{HasWritten}
+use Rattle.dcm_tree_laws.specs.Outputs.{HasWritten, IsNamedBy}
 use Rattle.dcm_tree_laws.specs.Rows.{Visit, noted}
 
 -- ---- the answer to a file
@@ -90,11 +92,20 @@ pub record IsSingle {I O : Type 0} (h : Host I O) (links : Links) (part : List �
   pub answered : (read : Found) → start.at (h.leads Followed v.named.path) ≡ Some read → read.kind ≡ kinds.File
       → h.leads Followed v.named.path ≢ place_of h part → IsWholeAnswer task (start.bytes (number_of read)) bytes
 
--- what became of a name in a run says that its output was written only where such a file is there
-abbrev pub HasSingle : {I O : Type 0} → Host I O → Links → (part output : List ℕ) → Task → (start now : Tree) → Visit
-    → Done → Type 0
-HasSingle h links part output task start now v done =
-    HasWritten h (IsSingle h links part task start v) part output now v done
+-- what an output with these bytes is named by: its input, where the run keeps names; or else the instance that the
+-- bytes name, where the path of the part leads to its own place also when it is followed
+pub data IsNamedAfter {I O : Type 0} (h : Host I O) (keeps_names : Bool) (part bytes : List ℕ) (done : Done)
+    : Type 0 where
+  by_its_input : keeps_names ≡ true → done.instance ≡ None → IsNamedAfter h keeps_names part bytes done
+  by_its_bytes : (uids : Uids) → keeps_names ≡ false → IsNamedBy uids done
+      → (h.leads Followed part ≡ place_of h part → FileNames bytes (Ok uids))
+      → IsNamedAfter h keeps_names part bytes done
+
+-- what became of a name in a run says that its output was written only where such a file is there, and is named so
+abbrev pub HasSingle : {I O : Type 0} → Host I O → Links → (keeps_names : Bool) → (part output : List ℕ) → Task
+    → (start now : Tree) → Visit → Done → Type 0
+HasSingle h links keeps_names part output task start now v done =
+    HasWritten h (IsSingle h links part task start v) (IsNamedAfter h keeps_names part) part output now v done
 
 -- ---- all of them
 
@@ -110,8 +121,8 @@ pub record FolderHasSingle {I O F W E : Type 0} (h : Host I O) (reader : Reader 
   pub walks : WalksFolder (folders_do {F = F} h)
       (noted (visits_of (over {F = F} h (as_held h reader) output errors) m)) path begun.number
       opened ((v.start, from), []) before v.walked ((v.last, v.told), visits) after
-  pub rows : RowsOf (HasSingle h Kept begun.part.items run.output.now (task_of run.task) before.now after.now)
-      v.start.shared visits text
+  pub rows : RowsOf (HasSingle h Kept run.options.keeps_names begun.part.items run.output.now (task_of run.task)
+      before.now after.now) v.start.shared visits text
   pub manifest : m.contents left ≡ append_known (m.contents headed) text
 
 pub record ListHasSingle {I O F W E : Type 0} (h : Host I O) (reader : Reader I) (output : Writer O) (m : Writer W)
@@ -124,8 +135,8 @@ pub record ListHasSingle {I O F W E : Type 0} (h : Host I O) (reader : Reader I)
   pub walks : WalksList (folders_do {F = F} h) (noted (visits_of (over {F = F} h (as_held h reader) output errors) m))
       (as_held h reader).gets begun.number ((v.start, from), []) before input v.walked ((v.last, v.told), visits) after
       read
-  pub rows : RowsOf (HasSingle h Followed begun.part.items run.output.now (task_of run.task) before.now after.now)
-      v.start.shared visits text
+  pub rows : RowsOf (HasSingle h Followed run.options.keeps_names begun.part.items run.output.now (task_of run.task)
+      before.now after.now) v.start.shared visits text
   pub manifest : m.contents left ≡ append_known (m.contents headed) text
 
 -- at the end of a run that was begun, and did not end before its last name. Each call of a reader in it gives what the
