@@ -1,5 +1,5 @@
 -- Each output of a run is whole, of the file of a name that was read in it.
-use Rattle.std.proofs.Common.{◌≡◌, ◌∙◌, refl, sym, ap, ℕ, List, [], ◌++◌, None, append_assoc}
+use Rattle.std.proofs.Common.{◌≡◌, refl, sym, ap, ℕ, List, [], ◌++◌, None}
 use Rattle.dcm_devices.specs.Writing.{Writer}
 use Rattle.dcm_walk.specs.Visits.{Named}
 use Rattle.dcm_tree_words.specs.Trees.{Source}
