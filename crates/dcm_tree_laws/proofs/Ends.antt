@@ -29,7 +29,7 @@ use Rattle.dcm_cli.specs.declared.ending.Verdict.{Verdict}
 use Rattle.dcm_cli.specs.declared.first.FirstEnd.{FirstEnd}
 use Rattle.dcm_cli.specs.declared.first.FirstEnd.TheVariants.{Days, Refused}
 use Rattle.dcm_trees.specs.Task.{Task}
-use Rattle.dcm_tree_laws.specs.Determined.{ComesTo, HasNoDays, was_done, no_job, by_job, by_days_of, OneEnd, EndIsAnswer, OneInstance}
+use Rattle.dcm_tree_laws.specs.Determined.{ComesTo, HasNoDays, was_done, no_job, by_job, by_days_of, OneEnd, EndIsAnswer, DoneIsAnswer, OneInstance}
 use Rattle.dcm_tree_laws.specs.Single.{IsJobOf, of_all, of_days}
 use Rattle.dcm_tree_laws.proofs.Answered.{Gives, gives_answer}
 use Rattle.dcm_tree_laws.proofs.SharesBy.{one_job, not_same, same_key}
@@ -98,6 +98,16 @@ pub end_is_answer : EndIsAnswer
 end_is_answer task bytes output verdict x =
     let gives : Gives x.job bytes output = gives_answer x.job bytes output verdict x.answered in
     record { job = x.job; is_job = x.is_job; answer = gives.a; answers = gives.answers; output_is = gives.output_is }
+
+pub done_is_answer : DoneIsAnswer
+done_is_answer task bytes output verdict x done =
+    let gives : Gives x.job bytes output = gives_answer x.job bytes output verdict x.answered in
+    record {
+      answered = record { job = x.job; is_job = x.is_job; answer = gives.a; answers = gives.answers; output_is = gives.output_is };
+      verdict = verdict;
+      comes_to = x.answered;
+      done = done;
+    }
 
 -- ---- the instance that it names
 

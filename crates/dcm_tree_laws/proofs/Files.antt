@@ -129,7 +129,7 @@ module _ {I O F E : Type 0} (h : Host I O) (IsWhole : ℕ → List ℕ → Type 
   names_by name bytes held i it fate from before done to after (instance.placed path became relative is places rel d) =
       places_part name path bytes (names.leads (name_of_instance i) path (path_is m.output (name_of_instance i) path is) (names.of_instance held (uids_of i) it)) fate from before became to after places
 
-  names_part : (name bytes : List ℕ) (fate : Fate) (from : E) (before : FileSystem) (done : Done) (to : E) (after : FileSystem)
+  pub names_part : (name bytes : List ℕ) (fate : Fate) (from : E) (before : FileSystem) (done : Done) (to : E) (after : FileSystem)
       → NamesPart (over {F = F} h r w e) m name fate from before done to after → StepsIn h IsWhole m.part Of (whole bytes) before idle after
   names_part name bytes fate from before done to after (instance.no_instance cause read f removes told is) =
       goes_on (quiet (finds_instance h r m.part before (Err cause) read f)) (removes_part {I = I} h IsWhole m.part Of (whole bytes) refl read after removes)

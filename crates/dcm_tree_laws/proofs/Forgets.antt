@@ -30,7 +30,7 @@ moves_past h from to past before after (a_file m) =
 moves_past h from to past before after (same_file one other way was is same e) = (past, same_file one other way was is same (ap (with_past past) e))
 moves_past h from to past before after (a_folder one is kind stays) = (past, a_folder one is kind stays)
 
-step_past : {I O : Type 0} {h : Host I O} {IsWhole : ℕ → List ℕ → Type 0} {part output : List ℕ} {at : Phase} {before : FileSystem} {then : Phase} {after : FileSystem} (past : List Tree) → Step h IsWhole part output at before then after
+pub step_past : {I O : Type 0} {h : Host I O} {IsWhole : ℕ → List ℕ → Type 0} {part output : List ℕ} {at : Phase} {before : FileSystem} {then : Phase} {after : FileSystem} (past : List Tree) → Step h IsWhole part output at before then after
     → (more : List Tree) × Step h IsWhole part output at (with_past past before) then (with_past more after)
 step_past {before = before} {after = after} past (folder path rest to m same) =
     (before.now ∷ past, folder path rest to (record { made = m.made; nothing = m.nothing; kind = m.kind; fresh = m.fresh; puts = m.puts; bytes = m.bytes; notes = notes_past before.written past before after m.notes }) same)

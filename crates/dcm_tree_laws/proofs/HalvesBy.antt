@@ -1,12 +1,12 @@
 -- Each output of a run is whole, of the file of a name that was read in it.
-use Rattle.std.proofs.Common.{◌≡◌, ◌∙◌, refl, sym, ap, ℕ, List, [], ◌++◌, None, append_assoc}
+use Rattle.std.proofs.Common.{◌≡◌, refl, sym, ap, ℕ, List, [], ◌++◌, None}
 use Rattle.dcm_devices.specs.Writing.{Writer}
 use Rattle.dcm_walk.specs.Visits.{Named}
 use Rattle.dcm_tree_words.specs.Trees.{Source}
 use Rattle.dcm_cli.specs.Calls.{Reader}
 use Rattle.dcm_trees.specs.Task.{Task, task_of}
 use Rattle.dcm_tree_laws.specs.FileSystem.{FileSystem, Tree, Host, number_of}
-use Rattle.dcm_tree_laws.specs.Halves.{IsOfSource, links_of, WasState, IsAtName, IsOutputOf, IsAnswerOf, NeverHalf, NeverHalfOfBytes}
+use Rattle.dcm_tree_laws.specs.Halves.{IsOfSource, links_of, IsAtName, IsOutputOf, IsAnswerOf, NeverHalf, NeverHalfOfBytes}
 use Rattle.dcm_tree_laws.specs.Laws.{part_path}
 use Rattle.dcm_tree_laws.specs.Single.{as_held}
 use Rattle.dcm_tree_laws.specs.Stays.{IsOfOutput}
@@ -15,7 +15,7 @@ use Rattle.dcm_tree_laws.proofs.Near.{StaysIn}
 use Rattle.dcm_tree_laws.proofs.OfRuns.{after_run, stays_so}
 use Rattle.dcm_tree_laws.proofs.Runs.{RightOf}
 use Rattle.dcm_tree_laws.proofs.Seen.{SawFile}
-use Rattle.dcm_tree_laws.proofs.SoFar.{Grows, trees_of}
+use Rattle.dcm_tree_laws.proofs.SoFar.{Grows, trees_of, later_state}
 use Rattle.dcm_tree_laws.proofs.SinglesBy.{answered, opens_holds}
 
 -- ---- the file of a name
@@ -24,9 +24,6 @@ at_name : {I O : Type 0} (h : Host I O) (source : Source) (part output : List �
 at_name h source part output start n mode s stays none saw = record { was_state = record { later = []; trees_are = refl }; at_rest = none; of_source = saw.of_source; leads = saw.leads; file = saw.file; is = saw.is; kind = saw.kind; stays = stays_so h part output start s.now stays }
 
 -- it is so when more trees have come
-later_state : (later trees : List Tree) (s : FileSystem) → WasState trees s → WasState (later ++ trees) s
-later_state later trees s was = record { later = later ++ was.later; trees_are = ap (λ (ts : List Tree). later ++ ts) was.trees_are ∙ sym (append_assoc later was.later (trees_of s)) }
-
 later_name : {I O : Type 0} (h : Host I O) (source : Source) (part output : List ℕ) (start : Tree) (later trees : List Tree) (n : Named) (s : FileSystem) → IsAtName h source part output start trees n s → IsAtName h source part output start (later ++ trees) n s
 later_name h source part output start later trees n s is = record { was_state = later_state later trees s is.was_state; at_rest = is.at_rest; of_source = is.of_source; leads = is.leads; file = is.file; is = is.is; kind = is.kind; stays = is.stays }
 

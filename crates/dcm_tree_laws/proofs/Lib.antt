@@ -89,3 +89,5 @@ pub mod KeptFound
 pub mod KeptBy
 pub mod KeptTwice
 pub mod KeptFree
+pub mod Adding
+pub mod NamedBy

@@ -239,7 +239,7 @@ module _ {I O F W E : Type 0} (h : Host I O) (IsWhole : List Tree → ℕ → Li
   pub does_tree : (source : Source) (manifest : W) (from : E) (before : FileSystem) (status : ℕ) (left : W) (to : E) (after : FileSystem) → DoesTree (over {F = F} h r w e) rows run source manifest from before status left to after
       → RightOf h source IsWhole r w (task_of run.task) (part_path run) run.output.now start → RunCame h IsWhole (part_path run) run.output.now start before → RunCame h IsWhole (part_path run) run.output.now start after
   does_tree source manifest from before status left to after (spec.of_folder path is does) right came =
-      does_folder {F = F} h IsWhole grows r w e rows start run path manifest from before status left to after does (part_is_within run.output.now (part_path run) run.options.part.number refl) (right_in h source Kept (IsUnder path) (ap links_of is) (λ n under. in_folder path under.0 is under.1) IsWhole r w (task_of run.task) (part_path run) run.output.now start right) came
+      does_folder {F = F} h IsWhole grows r w e rows start run path manifest from before status left to after does (part_is_within run.output.now (part_path run) run.options.part.number refl) (right_in h source Kept (IsUnder path) (ap links_of is) (λ n under. in_folder path is under) IsWhole r w (task_of run.task) (part_path run) run.output.now start right) came
   does_tree source manifest from before status left to after (spec.of_list path is does) right came =
       does_list path manifest from before status left to after does (part_is_within run.output.now (part_path run) run.options.part.number refl) (right_in h source Followed IsLine (ap links_of is) (λ n line. in_list path is line) IsWhole r w (task_of run.task) (part_path run) run.output.now start right) came
 

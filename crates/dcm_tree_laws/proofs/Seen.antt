@@ -1,6 +1,9 @@
 -- Each file that a walk visits was seen at its path when it is visited, with its mode.
-use Rattle.std.proofs.Common.{◌≡◌, ◌∙◌, refl, sym, ap, subst, ℕ, zero, suc, List, ◌++◌, Bool, true, false, Option, Some, None, Result, Ok, Err, append_assoc}
-use Rattle.std.specs.Prelude.{codes, if◌then◌else◌}
+use Rattle.std.proofs.Common.{◌≡◌, ◌∙◌, refl, sym, ap, subst, ℕ, zero, suc, ◌+◌, List, ◌++◌, length, take, drop, Bool, true, false, Option, Some, None, Result, Ok, Err, arith, append_assoc, length-append}
+use Rattle.std.specs.Prelude.{◌||◌, codes, not, nat_lt, if◌then◌else◌}
+use Rattle.std.proofs.Math.Seq.{drop-append_seam}
+use Rattle.std.proofs.lemmas.Bool.{ltb-false}
+use Rattle.std.proofs.lemmas.List.{take_all}
 use Rattle.dcm_files.specs.declared.folders.Found.{Found}
 use Rattle.dcm_files.specs.declared.folders.FoundKind.{FoundKind}
 use Rattle.dcm_files.specs.declared.folders.FoundKind.TheVariants as kinds
@@ -10,7 +13,8 @@ use Rattle.dcm_walk.specs.Folder as walk
 use Rattle.dcm_walk.specs.Folder.{IsFit, IsJudged, DoesNamed, Listed, DoesNames, DoesFolder, Enters, EntersAt, EntryAt, WalksFolder, named_at, LEVELS}
 use Rattle.dcm_walk.specs.List as lists
 use Rattle.dcm_walk.specs.List.{DoesLine, WalksList, LooksAlong, wrong_with, what_of, what_at, named_line}
-use Rattle.dcm_walk.specs.Names.{below, leads_below}
+use Rattle.dcm_names.specs.Names.{NAME_LIMIT}
+use Rattle.dcm_walk.specs.Names.{PATH_LIMIT, below, leads_below}
 use Rattle.dcm_walk.specs.Visits.{Named, Step, Visits}
 use Rattle.dcm_walk.specs.declared.folder.FolderNumber.{FolderNumber}
 use Rattle.dcm_walk.specs.declared.folder.Walk.{Walk}
@@ -23,7 +27,11 @@ use Rattle.dcm_tree_laws.proofs.Below.{fit_leads}
 
 -- a name that stands below the folder that is walked
 abbrev pub IsUnder : (root : List ℕ) → Named → Type 0
-IsUnder root n = (relative : List ℕ) × (n.path ≡ below root relative)
+IsUnder root n = n.path ≡ below root n.relative
+
+-- a name that the walk of that folder comes to, before it is known to fit: it may be cut
+abbrev IsReached : (root : List ℕ) → Named → Type 0
+IsReached root n = (relative : List ℕ) × (n.path ≡ below root relative) × (n.relative ≡ take NAME_LIMIT relative)
 
 -- a name that is a line of a list
 abbrev pub IsLine : Named → Type 0
@@ -77,19 +85,42 @@ found_saw h links In n found before looked under fit kind call = λ mode is. rec
 
 -- ---- a folder
 
+-- a path behind that of the folder
+behind_root : (root relative : List ℕ) → drop (length root + 1) (below root relative) ≡ relative
+behind_root root relative = ap (λ (n : ℕ). drop n (below root relative)) (sym (length-append root (codes "/"))) ∙ drop-append_seam (root ++ codes "/") relative
+
+reached : (root path relative : List ℕ) (base : ℕ) → base ≡ length root + 1 → path ≡ below root relative → IsReached root (named_at base path)
+reached root path relative base at is = (
+  relative,
+  is,
+  ap (take NAME_LIMIT) (ap (λ (n : ℕ). drop n path) at ∙ ap (drop (length root + 1)) is ∙ behind_root root relative),
+)
+
+not_long : (long leads : Bool) → (long || not leads) ≡ false → long ≡ false
+not_long true leads e = absurd (cc)
+not_long false leads e = refl
+
+-- one that fits is not cut
+no_cut : (path root relative : List ℕ) → path ≡ below root relative → nat_lt PATH_LIMIT (length path) ≡ false → take NAME_LIMIT relative ≡ relative
+no_cut path root relative is short =
+    take_all NAME_LIMIT relative (omega (arith, ltb-false PATH_LIMIT (length path) short, ap (λ (p : List ℕ). length p) is ∙ length-append (root ++ codes "/") relative))
+
+under : (root : List ℕ) (n : Named) → IsReached root n → IsFit n → IsUnder root n
+under root n r fit = r.1 ∙ ap (below root) (sym (r.2 ∙ no_cut n.path root r.0 r.1 (not_long (nat_lt PATH_LIMIT (length n.path)) (leads_below n.relative) fit.fits)))
+
 -- what is in a folder below it is so too
 under_entry : (root folder entry relative : List ℕ) → folder ≡ below root relative → below folder entry ≡ below root (below relative entry)
 under_entry root folder entry relative is =
     ap (λ (x : List ℕ). below x entry) is ∙ ap (λ (x : List ℕ). x ++ entry) (append_assoc (root ++ codes "/") relative (codes "/")) ∙ append_assoc (root ++ codes "/") (relative ++ codes "/") entry
 
 module _ {I O V : Type 0} (F : Type 0) (h : Host I O) (root : List ℕ) (visits : Visits V FileSystem) where
-  named_seen : (Enter EnterSeen : Found → Named → Step V FileSystem) → ((found : Found) (n : Named) → IsUnder root n → Becomes (Enter found n) (EnterSeen found n)) → (n : Named) → IsUnder root n
+  named_seen : (Enter EnterSeen : Found → Named → Step V FileSystem) → ((found : Found) (n : Named) → IsReached root n → Becomes (Enter found n) (EnterSeen found n)) → (n : Named) → IsReached root n
       → Becomes (DoesNamed (folders_do {F = F} h) visits Enter n) (DoesNamed (folders_do {F = F} h) (seen h Kept (IsUnder root) visits) EnterSeen n)
-  named_seen Enter EnterSeen enters n under from before r to after (walk.not_fit what judged v) = walk.not_fit what judged (v, none_saw h Kept (IsUnder root) before n what (judged_not n what judged))
-  named_seen Enter EnterSeen enters n under from before r to after (walk.not_seen looked fit s v) = walk.not_seen looked fit s (v, none_saw h Kept (IsUnder root) looked n _ (λ mode e. absurd (cc)))
-  named_seen Enter EnterSeen enters n under from before r to after (walk.a_file found looked fit s is v) = walk.a_file found looked fit s is (v, found_saw h Kept (IsUnder root) n found before looked under fit is s)
-  named_seen Enter EnterSeen enters n under from before r to after (walk.no_file found looked fit s is v) = walk.no_file found looked fit s is (v, none_saw h Kept (IsUnder root) looked n _ (λ mode e. absurd (cc)))
-  named_seen Enter EnterSeen enters n under from before r to after (walk.a_folder found looked fit s is e) = walk.a_folder found looked fit s is (enters found n under from looked r to after e)
+  named_seen Enter EnterSeen enters n at from before r to after (walk.not_fit what judged v) = walk.not_fit what judged (v, none_saw h Kept (IsUnder root) before n what (judged_not n what judged))
+  named_seen Enter EnterSeen enters n at from before r to after (walk.not_seen looked fit s v) = walk.not_seen looked fit s (v, none_saw h Kept (IsUnder root) looked n _ (λ mode e. absurd (cc)))
+  named_seen Enter EnterSeen enters n at from before r to after (walk.a_file found looked fit s is v) = walk.a_file found looked fit s is (v, found_saw h Kept (IsUnder root) n found before looked (under root n at fit) fit is s)
+  named_seen Enter EnterSeen enters n at from before r to after (walk.no_file found looked fit s is v) = walk.no_file found looked fit s is (v, none_saw h Kept (IsUnder root) looked n _ (λ mode e. absurd (cc)))
+  named_seen Enter EnterSeen enters n at from before r to after (walk.a_folder found looked fit s is e) = walk.a_folder found looked fit s is (enters found n at from looked r to after e)
 
   listed_seen : (Entry EntrySeen : List ℕ → Step V FileSystem) → ((name : List ℕ) → Becomes (Entry name) (EntrySeen name)) → (from : V) (before : FileSystem) (folder : F) (count : ℕ) (to : V) (after : FileSystem) (left : F)
       → Listed (folders_do {F = F} h) Entry from before folder count to after left → Listed (folders_do {F = F} h) EntrySeen from before folder count to after left
@@ -120,20 +151,21 @@ module _ {I O V : Type 0} (F : Type 0) (h : Host I O) (root : List ℕ) (visits 
   enters_seen w Entry EntrySeen found n entries from before r to after (walk.entered folder opened is o does) =
       walk.entered folder opened is o (folder_seen (Entry n.path) (EntrySeen n.path) entries n folder from opened r to after does)
 
-  enters_at_seen : (w : Walk) (levels : ℕ) (found : Found) (n : Named) → IsUnder root n → Becomes (EntersAt (folders_do {F = F} h) visits w levels found n) (EntersAt (folders_do {F = F} h) (seen h Kept (IsUnder root) visits) w levels found n)
+  enters_at_seen : (w : Walk) → w.base ≡ length root + 1 → (levels : ℕ) (found : Found) (n : Named) → IsReached root n → Becomes (EntersAt (folders_do {F = F} h) visits w levels found n) (EntersAt (folders_do {F = F} h) (seen h Kept (IsUnder root) visits) w levels found n)
   unfolding EntersAt
-  enters_at_seen w zero found n under from before r to after v = (v, none_saw h Kept (IsUnder root) before n _ (λ mode e. absurd (cc)))
-  enters_at_seen w (suc levels) found n under from before r to after enters =
+  enters_at_seen w base zero found n at from before r to after v = (v, none_saw h Kept (IsUnder root) before n _ (λ mode e. absurd (cc)))
+  enters_at_seen w base (suc levels) found n at from before r to after enters =
       enters_seen w (λ folder entry. DoesNamed (folders_do {F = F} h) visits (EntersAt (folders_do {F = F} h) visits w levels) (named_at w.base (below folder entry)))
       (λ folder entry. DoesNamed (folders_do {F = F} h) (seen h Kept (IsUnder root) visits) (EntersAt (folders_do {F = F} h) (seen h Kept (IsUnder root) visits) w levels) (named_at w.base (below folder entry))) found n
-      (λ entry. named_seen (EntersAt (folders_do {F = F} h) visits w levels) (EntersAt (folders_do {F = F} h) (seen h Kept (IsUnder root) visits) w levels) (enters_at_seen w levels) (named_at w.base (below n.path entry))
-      (below under.0 entry, under_entry root n.path entry under.0 under.1)) from before r to after enters
+      (λ entry. named_seen (EntersAt (folders_do {F = F} h) visits w levels) (EntersAt (folders_do {F = F} h) (seen h Kept (IsUnder root) visits) w levels) (enters_at_seen w base levels) (named_at w.base (below n.path entry))
+      (reached root (below n.path entry) (below at.0 entry) w.base base (under_entry root n.path entry at.0 at.1))) from before r to after enters
 
   pub walk_seen : (output : FolderNumber) (folder : F) → Becomes (WalksFolder (folders_do {F = F} h) visits root output folder) (WalksFolder (folders_do {F = F} h) (seen h Kept (IsUnder root) visits) root output folder)
   walk_seen output folder from before r to after does =
-      folder_seen (EntryAt (folders_do {F = F} h) visits _ LEVELS root) (EntryAt (folders_do {F = F} h) (seen h Kept (IsUnder root) visits) _ LEVELS root)
-      (λ entry. named_seen (EntersAt (folders_do {F = F} h) visits _ LEVELS) (EntersAt (folders_do {F = F} h) (seen h Kept (IsUnder root) visits) _ LEVELS) (enters_at_seen _ LEVELS) (named_at _ (below root entry)) (entry, refl)) _ folder from before r to after
-      does
+      let w : Walk = record { base = length root + 1; output = output } in
+      folder_seen (EntryAt (folders_do {F = F} h) visits w LEVELS root) (EntryAt (folders_do {F = F} h) (seen h Kept (IsUnder root) visits) w LEVELS root)
+      (λ entry. named_seen (EntersAt (folders_do {F = F} h) visits w LEVELS) (EntersAt (folders_do {F = F} h) (seen h Kept (IsUnder root) visits) w LEVELS) (enters_at_seen w refl LEVELS) (named_at w.base (below root entry))
+      (reached root (below root entry) entry w.base refl refl)) _ folder from before r to after does
 
 -- ---- a list
 

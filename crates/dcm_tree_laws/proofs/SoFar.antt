@@ -1,7 +1,7 @@
 -- What holds of a file system as a run goes on, where it depends on all trees that it had what a whole output is.
-use Rattle.std.proofs.Common.{◌≡◌, ◌∙◌, refl, sym, ap, subst, ℕ, List, [], ◌∷◌, ◌++◌, false, Option, Some, None}
+use Rattle.std.proofs.Common.{◌≡◌, ◌∙◌, refl, sym, ap, subst, ℕ, List, [], ◌∷◌, ◌++◌, false, Option, Some, None, append_assoc}
 use Rattle.std.specs.Prelude.{◌≢◌}
-use Rattle.dcm_tree_laws.specs.FileSystem.{FileSystem, Tree, Host, Number, number_of, begins, Notes, TakesPieces, no_piece, and_piece, ClosesOutput, MovesWhat, a_file, same_file, a_folder}
+use Rattle.dcm_tree_laws.specs.FileSystem.{FileSystem, Tree, Host, WasState, Number, number_of, begins, Notes, TakesPieces, no_piece, and_piece, ClosesOutput, MovesWhat, a_file, same_file, a_folder}
 use Rattle.dcm_tree_laws.specs.Stays.{OfEach, OfEachSoFar, AlwaysSoFar}
 use Rattle.dcm_tree_laws.specs.Whole.{IsWholeAt, nothing, was_there, a_folder as is_folder, an_output, NoneHalf, NoneHalfSoFar}
 use Rattle.dcm_tree_laws.proofs.Both.{BothIn, each, after_steps}
@@ -12,6 +12,10 @@ use Rattle.dcm_tree_laws.proofs.WholeBy.{no_folder}
 -- all trees that it had, the latest first
 abbrev pub trees_of : FileSystem → List Tree
 trees_of s = s.now ∷ s.earlier
+
+-- it had this state when more trees have come, too
+pub later_state : (later trees : List Tree) (s : FileSystem) → WasState trees s → WasState (later ++ trees) s
+later_state later trees s was = record { later = later ++ was.later; trees_are = ap (λ (ts : List Tree). later ++ ts) was.trees_are ∙ sym (append_assoc later was.later (trees_of s)) }
 
 -- ---- the trees that come to those that were
 
@@ -41,7 +45,7 @@ moves_add h part path trees before after no_folder (a_folder one is kind stays) 
 not_idle : (bytes : List ℕ) → whole bytes ≡ idle → ⊥
 not_idle bytes e = absurd (cc)
 
-each_adds : {I O : Type 0} (h : Host I O) (IsWhole : ℕ → List ℕ → Type 0) (part : List ℕ) (Of : List ℕ → Type 0) (trees : List Tree) (at : Phase) (before : FileSystem) (then : Phase) (after : FileSystem)
+pub each_adds : {I O : Type 0} (h : Host I O) (IsWhole : ℕ → List ℕ → Type 0) (part : List ℕ) (Of : List ℕ → Type 0) (trees : List Tree) (at : Phase) (before : FileSystem) (then : Phase) (after : FileSystem)
     → (is_writing at ≡ false → at ≢ idle → NoFolder h part before.now) → StepIn h IsWhole part Of at before then after → Adds trees before → Adds trees after
 each_adds h IsWhole part Of trees at before then after none (folder path rest to makes same) adds = one_adds trees before after before.written makes.notes adds
 each_adds h IsWhole part Of trees at before then after none (part_made mode rest makes is) adds = one_adds trees before after (Some (number_of makes.made)) makes.notes adds

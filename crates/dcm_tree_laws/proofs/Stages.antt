@@ -151,8 +151,8 @@ module _ {I O : Type 0} (h : Host I O) (r : Reader I) (w : Writer O) (k : Manner
   file_gives : GivesAll h (as_whole h r) w → (n : Named) (mode : ℕ) (bytes : List ℕ) (before : FileSystem) → HasBytes h k.output before.now (visit_of n (File mode)) bytes → FileGives h (Whole h k.task mode bytes) (as_whole h r) w k.task n.path mode before
   file_gives all n mode bytes before has = λ job mid f input opened o left made written ending new finished done. (
     refl,
-    answered h (as_whole h r) w all k.task n.path before mid job input opened left made written ending f o new finished done bytes
-        (λ input opened o. opens_holds h n.path before input opened o has.file.file has.file.is has.file.kind ∙ has.bytes_are),
+    (answered h (as_whole h r) w all k.task n.path before mid job input opened left made written ending f o new finished done bytes
+        (λ input opened o. opens_holds h n.path before input opened o has.file.file has.file.is has.file.kind ∙ has.bytes_are)).answered,
   )
 
 module _ {I O F E : Type 0} (h : Host I O) (r : Reader I) (w : Writer O) (e : Writer E) (k : Manner) where

@@ -33,7 +33,7 @@ use Rattle.dcm_tree_laws.proofs.Steps.{idle, writing, quiet}
 use Rattle.dcm_tree_laws.proofs.Written.{IsIdle, GivesOutput, OpenGives, FileGives, not_written, days_not, instance_not, what_not, more, is_ready, tells_not, true_not, at_name, named_named}
 
 -- the output of what became of a name, where one was written
-abbrev OutputOf : {I O : Type 0} → Host I O → (ℕ → List ℕ → Type 0) → Manner → (relative : List ℕ) → Done → (start s : FileSystem) → Type 0
+abbrev pub OutputOf : {I O : Type 0} → Host I O → (ℕ → List ℕ → Type 0) → Manner → (relative : List ℕ) → Done → (start s : FileSystem) → Type 0
 OutputOf h IsWhole m relative done start s = NewOutput h IsWhole m.part m.output (below m.output (name_in relative done.instance)) start.now s.now
 
 placed_out : {I O F E : Type 0} (h : Host I O) (IsWhole : ℕ → List ℕ → Type 0) (r : Reader I) (w : Writer O) (e : Writer E) (m : Manner) (name path relative bytes : List ℕ) → path ≡ below m.output relative → (fate : Fate) (from : E) (start before : FileSystem) (became : Fate) (to : E) (after : FileSystem)
@@ -44,10 +44,10 @@ placed_out {I} {O} {F} h IsWhole r w e m name path relative bytes is fate from s
     (free_name_given {I = I} {F = F} path relative is ready p.naming p.gives (written_named p.naming fate p.same (sym (ap is_written p.becomes) ∙ written))))
 
 -- of a fate without a name
-no_output : {A : Type 0} (done : Done) (fate : Fate) → done ≡ without_name fate → is_written fate ≡ false → is_written done.fate ≡ true → A
+pub no_output : {A : Type 0} (done : Done) (fate : Fate) → done ≡ without_name fate → is_written fate ≡ false → is_written done.fate ≡ true → A
 no_output {A} done fate is not written = not_written done.fate fate (ap (λ (d : Done). d.fate) is) not written
 
-by_out : {I O F E : Type 0} (h : Host I O) (IsWhole : ℕ → List ℕ → Type 0) (r : Reader I) (w : Writer O) (e : Writer E) (m : Manner) (name relative bytes : List ℕ) (i : Instance) (fate : Fate) (from : E) (start before : FileSystem) (done : Done) (to : E) (after : FileSystem)
+pub by_out : {I O F E : Type 0} (h : Host I O) (IsWhole : ℕ → List ℕ → Type 0) (r : Reader I) (w : Writer O) (e : Writer E) (m : Manner) (name relative bytes : List ℕ) (i : Instance) (fate : Fate) (from : E) (start before : FileSystem) (done : Done) (to : E) (after : FileSystem)
     → IsReady h IsWhole m.part m.output bytes start before → NamesBy (over {F = F} h r w e) m name i fate from before done to after → is_written done.fate ≡ true → OutputOf h IsWhole m relative done start after
 by_out h IsWhole r w e m name relative bytes i fate from start before done to after ready (instance.too_long none removes told is) written = no_output done fates.Unwritten is refl written
 by_out {I} {O} {F} h IsWhole r w e m name relative bytes i fate from start before done to after ready (instance.placed path became items is places rel d) written =
@@ -68,7 +68,7 @@ filled_out {I} {O} {F} h IsWhole r w e job m name relative mode input output giv
     part_out {F = F} h IsWhole r w e m name relative (h.took fills.written) (ending_fate ending) told start was_filled done to after
     (is_ready (h.took fills.written) (more i (is_filled_as h IsWhole r w m.part m.output (h.masked mode) job input output before ending was_filled fills (gives fills.left output fills.written ending new fills.finished is)))) names written
 
-no_ok : (r : Result Done RunStop) (p : RunStop) (done : Done) → r ≡ Err p → r ≡ Ok done → ⊥
+pub no_ok : (r : Result Done RunStop) (p : RunStop) (done : Done) → r ≡ Err p → r ≡ Ok done → ⊥
 no_ok r p done a b = absurd (cc)
 
 not_unnamed : (became : Result Fate RunStop) (r : Result Done RunStop) (done : Done) → r ≡ unnamed became → r ≡ Ok done → ((fate : Fate) → became ≡ Ok fate → is_written fate ≡ false) → is_written done.fate ≡ false

@@ -2,7 +2,6 @@
 use Rattle.std.specs.Prelude.{◌≡◌, ◌≢◌, ◌≤◌, ℕ, length, List, [], true, false, Some, None, Result, Ok, Err}
 use Rattle.std.specs.Io.KnownBytes.{append_known}
 use Rattle.std.specs.Str.{IsUtf8}
-use Rattle.arrayvec.specs.ArrayVec.{ArrayVec}
 use Rattle.dcm_base.specs.declared.fault.Stop.{Stop as FaultAt}
 use Rattle.dcm_base.specs.Reading.Reads.{INPUT_LIMIT}
 use Rattle.dcm_devices.specs.Writing.{Writer}
@@ -39,6 +38,7 @@ use Rattle.dcm_tree_laws.specs.Determined.{as_whole, working, working_folders}
 use Rattle.dcm_tree_laws.specs.FileSystem.{FileSystem, Tree, Host, number_of, at_path, SameNames, folders_do}
 use Rattle.dcm_tree_laws.specs.Laws.{part_path}
 use Rattle.dcm_tree_laws.specs.OneRow.{RowsOf}
+pub use Rattle.dcm_tree_laws.specs.Outputs.{IsNamedBy}
 use Rattle.dcm_tree_laws.specs.Rows.{Visit, noted}
 use Rattle.dcm_tree_laws.specs.Single.{TellsAll}
 
@@ -80,13 +80,7 @@ pub record IsAsItWas (before after : Tree) : Type 0 where
   pub bytes : (place : List ℕ) (f : Found) → before.at place ≡ Some f
       → after.bytes (number_of f) ≡ before.bytes (number_of f)
 
--- the row of a file has the name of this instance
-pub record IsNamedBy (uids : Uids) (done : Done) : Type 0 where
-  pub relative : ArrayVec ℕ
-  pub instance_is : done.instance ≡ Some relative
-  pub relative_is : relative.items ≡ instance_name uids
-
--- and says that it is there
+-- the row of a file has the name of this instance, and says that it is there
 pub record IsThereAs (uids : Uids) (done : Done) : Type 0 where
   pub fate_is : done.fate ≡ fates.There
   pub named : IsNamedBy uids done

@@ -1,5 +1,5 @@
 -- Runs in which no call fails that need not: what becomes of a file there is determined by its bytes.
-use Rattle.std.specs.Prelude.{◌≡◌, ◌≢◌, ◌≤◌, ℕ, length, List, Bool, false, Some, None, Result, Ok, Err}
+use Rattle.std.specs.Prelude.{◌≡◌, ◌≢◌, ◌≤◌, ℕ, length, List, Bool, true, false, Some, None, Result, Ok, Err}
 use Rattle.std.specs.IoError.{error_kind}
 use Rattle.std.specs.declared.io.Error.{Error}
 use Rattle.std.specs.declared.io.ErrorKind.TheVariants.{AlreadyExists}
@@ -24,11 +24,13 @@ use Rattle.dcm_cli.specs.First.{FirstReads}
 use Rattle.dcm_cli.specs.Run.{Answered}
 use Rattle.dcm_cli.specs.declared.ending.Verdict.{Verdict}
 use Rattle.dcm_cli.specs.declared.first.FirstEnd.TheVariants.{Refused}
+use Rattle.dcm_trees.specs.Fate.{is_written}
+use Rattle.dcm_trees.specs.Lines.{verdict_fate}
 use Rattle.dcm_trees.specs.Task.{Task, by_days}
 use Rattle.dcm_trees.specs.World.{World, world}
 use Rattle.dcm_tree_laws.specs.Again.{sure}
 use Rattle.dcm_tree_laws.specs.FileSystem.{FileSystem, Tree, Host, number_of, place_of, at_path, may_do, folders_do}
-use Rattle.dcm_tree_laws.specs.Single.{IsJobOf, IsAnswered, as_held}
+use Rattle.dcm_tree_laws.specs.Single.{IsJobOf, IsAnswered, IsWholeAnswer, as_held}
 
 -- ---- what is there
 
@@ -127,6 +129,11 @@ OneEnd = (task : Task) (bytes : List ℕ) (one other : FileEnd) → EndsAs task 
 abbrev pub EndIsAnswer : Type 0
 EndIsAnswer = (task : Task) (bytes output : List ℕ) (verdict : Verdict) → ComesTo task bytes output verdict
     → IsAnswered task bytes output
+
+-- and where that comes to what is written, it is all of it
+abbrev pub DoneIsAnswer : Type 0
+DoneIsAnswer = (task : Task) (bytes output : List ℕ) (verdict : Verdict) → ComesTo task bytes output verdict
+    → is_written (verdict_fate verdict) ≡ true → IsWholeAnswer task bytes output
 
 -- a file names one instance, or none for one reason
 abbrev pub OneInstance : Type 0

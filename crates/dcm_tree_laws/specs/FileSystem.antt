@@ -37,6 +37,11 @@ pub record FileSystem : Type 0 where
 abbrev pub begins : Tree → FileSystem
 begins start = record { now = start; earlier = []; written = None; unremoved = false }
 
+-- a run whose trees were these, the latest first, had this state: they are those up to it, and some later ones
+pub record WasState (trees : List Tree) (s : FileSystem) : Type 0 where
+  pub later : List Tree
+  pub trees_are : trees ≡ later ++ s.now ∷ s.earlier
+
 -- what differs from one system to another: where a path leads, a link at its end followed or not, which no call of a
 -- run changes, since it makes and takes no link; the bytes that an input has still to give, and those that an output
 -- took; and what is left of the bits of a mode

@@ -1,5 +1,5 @@
 -- No output of a run over a tree is half under its name: each is whole, of the file of a name that was read in the run.
-use Rattle.std.specs.Prelude.{◌≡◌, ℕ, List, [], ◌∷◌, ◌++◌, Bool, true, Some, None, Ok}
+use Rattle.std.specs.Prelude.{◌≡◌, ◌≢◌, ℕ, List, [], Bool, true, Some, None, Ok}
 use Rattle.dcm_deid.specs.declared.fate.Options.{Options}
 use Rattle.dcm_devices.specs.Writing.{Writer}
 use Rattle.dcm_files.specs.declared.folders.Found.{Found}
@@ -12,6 +12,8 @@ use Rattle.dcm_walk.specs.Visits.{Named}
 use Rattle.dcm_words.specs.Words.{Job, deidentify}
 use Rattle.dcm_tree_words.specs.Trees.{Source, folder, list, Tree as WordsTree, meant_tree}
 use Rattle.dcm_cli.specs.Calls.{Reader, Finishes}
+use Rattle.dcm_cli.specs.Keys.{TakesKey}
+use Rattle.dcm_cli.specs.declared.key.KeyRead.{KeyRead}
 use Rattle.dcm_cli.specs.declared.ending.Ending.{Ending}
 use Rattle.dcm_trees.specs.declared.run.TreeRun.{TreeRun}
 use Rattle.dcm_trees.specs.Fate.{is_written}
@@ -20,28 +22,24 @@ use Rattle.dcm_trees.specs.Opening.{OpensFile}
 use Rattle.dcm_trees.specs.Program.{ObeysTree, keyed_task}
 use Rattle.dcm_trees.specs.Task.{Task, same, task_of, FindsJob}
 use Rattle.dcm_trees.specs.Tree.{DoesTree}
-use Rattle.dcm_tree_laws.specs.FileSystem.{FileSystem, Host, Tree, number_of, begins, may_do}
+use Rattle.dcm_tree_laws.specs.FileSystem.{FileSystem, Host, Tree, WasState, number_of, begins, may_do}
 use Rattle.dcm_tree_laws.specs.Laws.{over, part_path, part_of_tree}
-use Rattle.dcm_tree_laws.specs.Single.{IsAnswered, TellsAll, as_held}
+use Rattle.dcm_tree_laws.specs.Single.{IsWholeAnswer, TellsAll, as_held}
 use Rattle.dcm_tree_laws.specs.Stays.{Stays, AlwaysSoFar}
 use Rattle.dcm_tree_laws.specs.Whole.{NoneHalfSoFar}
 
 -- ---- a file that is read
 
--- a name below the folder that a run is over, or one of the lines of its list
+-- a name in the folder that a run is over, whose path is that of its relative name below the folder; or one of the lines
+-- of its list
 pub data IsOfSource (source : Source) (n : Named) : Type 0 where
-  in_folder : (path relative : List ℕ) → source ≡ folder path → n.path ≡ below path relative → IsOfSource source n
+  in_folder : (path : List ℕ) → source ≡ folder path → n.path ≡ below path n.relative → IsOfSource source n
   in_list : (path : List ℕ) → source ≡ list path → n ≡ named_line n.name → IsOfSource source n
 
 -- links are followed where a list names a file, and not where it is in a folder
 abbrev pub links_of : Source → Links
 links_of (folder path) = Kept
 links_of (list path) = Followed
-
--- a run whose trees were these, the latest first, had this state: they are those up to it, and some later ones
-pub record WasState (trees : List Tree) (s : FileSystem) : Type 0 where
-  pub later : List Tree
-  pub trees_are : trees ≡ later ++ s.now ∷ s.earlier
 
 -- at such a state, while no file is being written, a regular file is at the path of such a name. What was at the start
 -- is there, so that the file is one of the start, or one in OUTPUT
@@ -93,7 +91,8 @@ NeverHalf {I} {O} {W} {E} F reader output rows errors =
 
 -- ---- the answer to its bytes
 
--- these bytes are what a single run writes of those of the file, and the mode is what is left of that of the file
+-- these bytes are what a single run writes of those of the file, where that is done; and the mode is what is left of
+-- that of the file
 pub record IsAnswerOf {I O : Type 0} (h : Host I O) (source : Source) (task : Task) (part output : List ℕ)
     (start : Tree) (earlier : List Tree) (mode : ℕ) (bytes : List ℕ) : Type 0 where
   pub name : Named
@@ -101,7 +100,7 @@ pub record IsAnswerOf {I O : Type 0} (h : Host I O) (source : Source) (task : Ta
   pub read : IsAtName h source part output start earlier name state
   pub mode_is : mode ≡ h.masked read.file.mode
   pub answered : (f : Found) → state.now.at (h.leads Followed name.path) ≡ Some f → f.kind ≡ kinds.File
-      → IsAnswered task (state.now.bytes (number_of f)) bytes
+      → IsWholeAnswer task (state.now.bytes (number_of f)) bytes
 
 -- so it is where each call of a reader gives what the file that was opened holds, and an output tells all that it took
 abbrev pub NeverHalfOfBytes : {I O W E : Type 0} → (F : Type 0) → Reader I → Writer O → Writer W → Writer E → Type 0
@@ -115,17 +114,25 @@ NeverHalfOfBytes {I} {O} {W} {E} F reader output rows errors =
 
 -- ---- the same of the words of the program
 
--- the task that words mean: their job; or the taking out of identity by a key
-pub data IsTaskOf (t : WordsTree) (task : Task) : Type 0 where
-  of_job : task ≡ same t.plan.job → IsTaskOf t task
-  by_key : (options : Options) (reports : Bool) (planned key : List ℕ) → t.plan.job ≡ deidentify options reports planned
-      → task ≡ keyed_task t.plan.days_by_key options reports key → IsTaskOf t task
+-- the task that words mean: their job, where they name no key, or where it is not the taking out of identity; or that
+-- by the key that was read at the beginning, at the path that they name
+pub data IsTaskOf {I O : Type 0} (h : Host I O) (reader : Reader I) (t : WordsTree) (start : Tree) (task : Task)
+    : Type 0 where
+  without_key : t.plan.key ≡ None → task ≡ same t.plan.job → IsTaskOf h reader t start task
+  of_another_job : ((options : Options) (reports : Bool) (planned : List ℕ)
+      → t.plan.job ≢ deidentify options reports planned) → task ≡ same t.plan.job → IsTaskOf h reader t start task
+  by_key : (options : Options) (reports : Bool) (planned path : List ℕ) (k : KeyRead) (has_key : FileSystem)
+      → t.plan.job ≡ deidentify options reports planned → t.plan.key ≡ Some path
+      → TakesKey (may_do h) reader path (begins start) (Ok k) has_key
+      → task ≡ keyed_task t.plan.days_by_key options reports k.bytes.items → IsTaskOf h reader t start task
 
-pub record IsOutputByWords {I O : Type 0} (h : Host I O) (reader : Reader I) (output : Writer O) (t : WordsTree)
-    (start : Tree) (earlier : List Tree) (mode : ℕ) (bytes : List ℕ) : Type 0 where
-  pub task : Task
-  pub is_task : IsTaskOf t task
-  pub it : IsOutputOf h reader output t.source task (part_of_tree t) t.plan.output start earlier mode bytes
+-- one such task gave all outputs; or all is as the run found it, and was so throughout
+pub data HasOneTask {I O : Type 0} (h : Host I O) (reader : Reader I) (output : Writer O) (t : WordsTree) (start : Tree)
+    (after : FileSystem) : Type 0 where
+  by_task : (task : Task) → IsTaskOf h reader t start task
+      → AlwaysSoFar (NoneHalfSoFar h (IsOutputOf h reader output t.source task (part_of_tree t) t.plan.output start)
+      (part_of_tree t) start) after → HasOneTask h reader output t start after
+  nothing_changed : after ≡ begins start → HasOneTask h reader output t start after
 
 abbrev pub NeverHalfByWords : {I O E : Type 0} → (F : Type 0) → Reader I → Writer O → Writer E → Type 0
 NeverHalfByWords {I} {O} {E} F reader output errors =
@@ -133,4 +140,4 @@ NeverHalfByWords {I} {O} {E} F reader output errors =
     (after : FileSystem)
     → meant_tree words ≡ Ok t
     → ObeysTree (over {F = F} h reader output errors) words from (begins start) status to after
-    → AlwaysSoFar (NoneHalfSoFar h (IsOutputByWords h reader output t start) (part_of_tree t) start) after
+    → HasOneTask h reader output t start after

@@ -7,7 +7,7 @@ ghost use Rattle.dcm_tree_laws.specs.Copied.{CopiesAreThere, CopiesAreThereOfLis
 ghost use Rattle.dcm_tree_laws.specs.Copied.{SecondIsAsItWas, SecondIsAsItWasOfList};
 ghost use Rattle.dcm_tree_laws.specs.Copies.{CopyIsLeft, UnnamedIsLeft, AgainIsAsItWas, AgainIsAsItWasOfList};
 ghost use Rattle.dcm_tree_laws.specs.Course.{RunsBeginSo, RunsOfHeldBeginSo, SureRunsBeginSo, WorkingRunsBeginSo};
-ghost use Rattle.dcm_tree_laws.specs.Determined.{OneEnd, EndIsAnswer, OneInstance};
+ghost use Rattle.dcm_tree_laws.specs.Determined.{OneEnd, EndIsAnswer, DoneIsAnswer, OneInstance};
 ghost use Rattle.dcm_tree_laws.specs.Distinct.{OutputsAreDistinct, OutputsAreDistinctOfList};
 ghost use Rattle.dcm_tree_laws.specs.Flows.{NoNameFlows, SameBecomes};
 ghost use Rattle.dcm_tree_laws.specs.Kept.{AgainIsKept, AgainIsKeptOfList, KeptIsThere, KeptIsThereOfList};
@@ -40,11 +40,13 @@ pub fn others_stay<I: DeviceIn, O: DeviceOut, W: DeviceOut, E: DeviceOut, F>()
 /// No output of a tree is half under its name. After each call of a run over one, whatever calls fail, each file that
 /// was not there before is whole. It has all the bytes that its output took of a job that was done: the one that the
 /// run's task has for the file of a name below the folder that the run is over, or of a line of its list, done of the
-/// input that was opened at the path of that name. That file was there at a state that the run had before, links at the
-/// end of its path followed for a line of a list, and not in a folder. The mode is that of that file, less the bits
-/// that the system takes away. Where the calls of a reader give what the file holds, and an output tells all that it
-/// took, the bytes are what a single run writes of the bytes that were in the file when it was read. The run's own part
-/// is set aside.
+/// input that was opened at the path of that name. In a folder that is the path of its relative name, of which no part
+/// is empty, `.` or `..`. That file was there at a state that the run had before, links at the end of its path followed
+/// for a line of a list, and not in a folder. The mode is that of that file, less the bits that the system takes away.
+/// By the words of the program one task gave all outputs: that of their job, or, where they name a key, that by the key
+/// that was read there first. Where readers give what files hold and outputs tell what they took, the bytes are what a
+/// single run writes of the bytes that were in the file when it was read, and not of a file that it refuses. The run's
+/// own part is set aside.
 pub fn never_half<I: DeviceIn, O: DeviceOut, W: DeviceOut, E: DeviceOut, F>()
     ensures run { NeverHalf F I.DeviceIn O.DeviceOut W.DeviceOut E.DeviceOut }
     ensures bytes { NeverHalfOfBytes F I.DeviceIn O.DeviceOut W.DeviceOut E.DeviceOut }
@@ -77,8 +79,9 @@ pub fn one_row<S: Folders, W: DeviceOut, E: DeviceOut>()
 {}
 
 /// A row that says that an output was written is right. At the end of a run the file is at its path in the folder of
-/// the outputs, by its name or by that of the instance in it, with all the bytes that its output took of a job that was
-/// done. So it is of a run that was begun and did not end before its last name.
+/// the outputs, with all the bytes that its output took of a job that was done. Where the run keeps names it is called
+/// as its input; where it does not, after the instance that was read in a part with those bytes. So it is of a run that
+/// was begun and did not end before its last name.
 pub fn written_is_there<I: DeviceIn, O: DeviceOut, W: DeviceOut, E: DeviceOut, F>()
     ensures folder { WrittenIsThere F I.DeviceIn O.DeviceOut W.DeviceOut E.DeviceOut }
     ensures list { WrittenIsThereOfList F I.DeviceIn O.DeviceOut W.DeviceOut E.DeviceOut }
@@ -103,7 +106,10 @@ pub fn no_part_left<I: DeviceIn, O: DeviceOut, W: DeviceOut, E: DeviceOut, F>()
 
 /// Each output of a tree is that of a single run. The file of a row that says that it was written has the mode of the
 /// file that was found at the row's name, less the bits that the system takes away. Its bytes are the answer of the
-/// tool to the bytes that the file there had at the start of the run, be it named by that or by the instance in it.
+/// tool to the bytes that the file there had at the start of the run, and that answer refuses nothing. Where the run
+/// keeps names it is called as its input; where it does not, after the instance that its bytes name, if the path of the
+/// part leads to one place, followed or not. So it is of a run that was begun and did not end before its last name,
+/// where readers give what files hold and outputs tell what they took.
 pub fn outputs_are_single_runs<I: DeviceIn, O: DeviceOut, W: DeviceOut, E: DeviceOut, F>()
     ensures folder { SingleRuns F I.DeviceIn O.DeviceOut W.DeviceOut E.DeviceOut }
     ensures list { SingleRunsOfList F I.DeviceIn O.DeviceOut W.DeviceOut E.DeviceOut }
@@ -111,8 +117,8 @@ pub fn outputs_are_single_runs<I: DeviceIn, O: DeviceOut, W: DeviceOut, E: Devic
 
 /// A run that goes on and keeps names leaves the outputs that are there, as those that a run before it wrote. The row
 /// of such a name is `there`, nothing is told, and no call is made but to look. Where the outputs of all files of its
-/// share are there, as after a first run that wrote them, it changes nothing at any time. So it is where no look
-/// fails.
+/// share are there, as after a first run that wrote them, it changes nothing at any time. So it is where no look fails,
+/// of runs that do not end before their last names.
 pub fn again_is_still<I: DeviceIn, O: DeviceOut, W: DeviceOut, E: DeviceOut, F>()
     ensures made { MadeIsThere F I.DeviceIn O.DeviceOut W.DeviceOut E.DeviceOut }
     ensures made_by_list { MadeIsThereOfList F I.DeviceIn O.DeviceOut W.DeviceOut E.DeviceOut }
@@ -123,19 +129,21 @@ pub fn again_is_still<I: DeviceIn, O: DeviceOut, W: DeviceOut, E: DeviceOut, F>(
 {}
 
 /// What becomes of a file is determined by its bytes. Its job has one output and comes to one thing, or it has none for
-/// one reason. The output is what a single run writes, and a file names one instance.
+/// one reason. The output is what a single run writes, all of it where the job is done. A file names one instance.
 pub fn bytes_say_the_end()
     ensures end { OneEnd }
     ensures answer { EndIsAnswer }
+    ensures done { DoneIsAnswer }
     ensures instance { OneInstance }
 {}
 
 /// A run that names outputs by the instances in them does each file again. Where its output is there, with the same
-/// bytes, that is left, the row is `there`, and only what the job came to is told. Where a file with other bytes is there,
-/// that is left too. What has no job, or is refused, or names no instance, ends so again. Where that is so of all names,
-/// all is at the end as it was. So it is after a first run each of whose files was written, or was there, be it with the
-/// status 0 or 4, or ended so. The rows are those of the first run, but `there` for `written` and `unplaced`. It is said
-/// where no call fails that need not.
+/// bytes, that is left, the row is `there`, and only what the job came to is told. Where a file with other bytes is
+/// there, that is left too. What has no job, or is refused, or names no instance, ends so again. Where that is so of
+/// all names, all is at the end as it was. So it is after a first run each of whose files was written, or was there, be
+/// it with the status 0 or 4, or ended so. The rows are those of the first run, but `there` for `written` and
+/// `unplaced`. It is said where no call fails that need not, readers give what files hold and outputs tell what they
+/// took, of runs that do not end before their last names.
 pub fn again_is_as_it_was<I: DeviceIn, O: DeviceOut, W: DeviceOut, E: DeviceOut, F>()
     ensures made { CopiesAreThere F I.DeviceIn O.DeviceOut W.DeviceOut E.DeviceOut }
     ensures made_by_list { CopiesAreThereOfList F I.DeviceIn O.DeviceOut W.DeviceOut E.DeviceOut }
@@ -151,7 +159,8 @@ pub fn again_is_as_it_was<I: DeviceIn, O: DeviceOut, W: DeviceOut, E: DeviceOut,
 /// `written` and `unplaced`. It is of the same task and share, into the same folder, and visits the same names. So it
 /// is after a first run each of whose files was there at its start, and was written, or was there with the status 0, or
 /// was refused. The output of what was refused is still free, as it stays where no other name comes to be there, or on
-/// its way. Then that is refused again. It is said where no call fails that need not.
+/// its way. Then that is refused again. It is said where no call fails that need not, readers give what files hold and
+/// outputs tell what they took, of runs that do not end before their last names.
 pub fn again_keeps_names<I: DeviceIn, O: DeviceOut, W: DeviceOut, E: DeviceOut, F>()
     ensures made { KeptIsThere F I.DeviceIn O.DeviceOut W.DeviceOut E.DeviceOut }
     ensures made_by_list { KeptIsThereOfList F I.DeviceIn O.DeviceOut W.DeviceOut E.DeviceOut }
@@ -168,7 +177,8 @@ pub fn again_keeps_names<I: DeviceIn, O: DeviceOut, W: DeviceOut, E: DeviceOut, 
 /// order of the two walks: the two of a pair have one mode and come to the same, as those do that are read without
 /// fault, of which the same meta elements stay, and that differ only in what is taken. Then the same is in that folder
 /// after both, names too, and the status is the same. Manifest and lines, which have the old names, are set aside, and
-/// so are the modes of new folders. So it is where no call fails that need not.
+/// so are the modes of new folders. So it is where no call fails that need not, readers give what files hold and
+/// outputs tell what they took.
 pub fn no_name_flows<I: DeviceIn, O: DeviceOut, W: DeviceOut, E: DeviceOut, F>()
     ensures name { SameBecomes F I.DeviceIn O.DeviceOut E.DeviceOut }
     ensures run { NoNameFlows F I.DeviceIn O.DeviceOut W.DeviceOut E.DeviceOut }
@@ -186,14 +196,15 @@ pub fn names_are_shared()
 {}
 
 /// Runs that share a tree leave what one run leaves. Runs of all shares are done in any order, each over what the one
-/// before left; all keep names, or all name outputs by the instances in them. At the path of the output of each
-/// file is then what one run of all names leaves there: what was there before, nothing, or a file of the same mode with
-/// the same bytes. At each other place is what was there, or a folder. So it is where no call fails that need not, and
-/// no run ends before its last name. Names that come to one output have one mode and the same bytes, and no output is
-/// on the way to another one. What becomes of a name that its output keeps is told by what was there before the first
-/// run, and so is its row. Where instances name the outputs, each row is told so too, with the instance in it. Of names
-/// that come to one output the first that is done is written, and each one behind it has `there`. The rows are told
-/// where no output is taken by a folder, a link or a path that is too long.
+/// before left; all keep names, or all name outputs by the instances in them. At the path of the output of each file is
+/// then what one run of all names leaves there: what was there before, nothing, or a file of the same mode with the
+/// same bytes. At each other place is what was there, or a folder. So it is where no call fails that need not, readers
+/// give what files hold and outputs tell what they took, and no run ends before its last name. Names that come to one
+/// output have one mode and the same bytes, and no output is on the way to another one. What becomes of a name that its
+/// output keeps is told by what was there before the first run, and so is its row. Where instances name the outputs,
+/// each row is told so too, with the instance in it. Of names that come to one output the first that is done is
+/// written, and each one behind it has `there`. The rows are told where no output is taken by a folder, a link or a
+/// path that is too long.
 pub fn parts_are_one<I: DeviceIn, O: DeviceOut, W: DeviceOut, E: DeviceOut, F>()
     ensures files { PartsAreOne F I.DeviceIn O.DeviceOut W.DeviceOut E.DeviceOut }
     ensures instances { InstancesAreOne F I.DeviceIn O.DeviceOut W.DeviceOut E.DeviceOut }

@@ -7,5 +7,8 @@ returns-clause-end c = λ task bytes one other a b. ends.one_end task bytes one 
 pub returns-clause-answer : goal.returns-clause-answer
 returns-clause-answer c = λ task bytes output verdict x. ends.end_is_answer task bytes output verdict x
 
+pub returns-clause-done : goal.returns-clause-done
+returns-clause-done c = λ task bytes output verdict x done. ends.done_is_answer task bytes output verdict x done
+
 pub returns-clause-instance : goal.returns-clause-instance
 returns-clause-instance c = λ bytes one other a b. ends.one_instance bytes one other a b
