@@ -9,3 +9,5 @@ pub mod Names
 pub mod Tables
 pub mod Dumps
 pub mod Standing
+pub mod Grown
+pub mod LeftUtf8
