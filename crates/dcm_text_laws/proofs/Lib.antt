@@ -11,3 +11,4 @@ pub mod Dumps
 pub mod Standing
 pub mod Grown
 pub mod LeftUtf8
+pub mod ShownLines

@@ -3,6 +3,7 @@ ghost use Rattle.dcm_text_laws.specs.Laws.{AnswerIsUtf8, DumpsAreUtf8, DumpsEndS
 ghost use Rattle.dcm_text_laws.specs.Laws.{TableEndStands, TableIsUtf8, TableSoFarIsUtf8};
 ghost use Rattle.dcm_text_laws.specs.Left.{DumpGrowsByUtf8, DumpsGrowByUtf8, HeaderIsUtf8, RowGrowsByUtf8};
 ghost use Rattle.dcm_text_laws.specs.Left.{TableGrowsByUtf8};
+ghost use Rattle.dcm_text_laws.specs.ShownLines.{DisplayOfUtf8, LineOfAscii, LineOfAsciiAmongOthers, LineOfUtf8};
 
 use dcm_base::DeviceOut;
 use dcm_files::System;
@@ -38,4 +39,19 @@ pub fn table_is_utf8<S: System, W: DeviceOut>()
     ensures header { HeaderIsUtf8 }
     ensures left_of_row { RowGrowsByUtf8 S.Input.DeviceIn W.DeviceOut }
     ensures left_of_all { TableGrowsByUtf8 S.may_do S.Input.DeviceIn W.DeviceOut }
+{}
+
+/// The line of a text of bytes below 80 that designates nothing is in a dump by characters what it is in one without.
+/// So is that of a value that is no text. It is so whatever is in force, and whatever else is in its data set.
+pub fn ascii_lines_stay()
+    ensures line { LineOfAscii }
+    ensures among_others { LineOfAsciiAmongOthers }
+{}
+
+/// Where UTF-8 is in force, a text in UTF-8 without `%`, `]` and hidden characters is displayed by its bytes in
+/// brackets, without its pad byte. In full its line has all of that. It is a text of a representation that Specific
+/// Character Set is for.
+pub fn utf8_lines_are_as_they_are()
+    ensures display { DisplayOfUtf8 }
+    ensures line { LineOfUtf8 }
 {}
