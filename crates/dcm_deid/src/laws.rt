@@ -118,8 +118,8 @@ pub fn no_date_stays()
 {}
 
 /// With pseudonyms each PatientID becomes one, at every depth and however it was read. With moved dates each date that
-/// stays with full ones is moved, alone or with a time, and all else becomes what it becomes with full ones. The element
-/// that says what became of dates is set aside: it goes, and is put anew.
+/// stays with full ones is moved, alone or with a time, and all else becomes what it becomes with full ones. The
+/// element that says what became of dates is set aside: it goes, and is put anew.
 pub fn fates_of_research()
     ensures pseudonyms { PatientsGetPseudonyms }
     ensures moved { WhatStaysIsMoved }

@@ -9,3 +9,6 @@ pub mod Names
 pub mod Tables
 pub mod Dumps
 pub mod Standing
+pub mod Grown
+pub mod LeftUtf8
+pub mod ShownLines

@@ -65,7 +65,7 @@ text_bytes text h = λ i. a_byte text i (subst Bytes h.1.1 (encodes_bytes h.0 h.
 
 -- ---- names of files that are opened
 
-dash_utf8 : IsUtf8 (codes "-")
+pub dash_utf8 : IsUtf8 (codes "-")
 dash_utf8 = IsUtf8-from_ascii (codes "-") (IsAscii-cons 45 [] (omega arith) IsAscii-nil)
 
 -- a path at which something can be read is a text
@@ -86,7 +86,7 @@ opened s name path bytes e = by (can_be_opened name) refl e
     by true p e = (p, e)
     by false p e = cc
 
-listed_utf8 : (name : List ℕ) → IsUtf8 (listed_path name) → IsUtf8 name
+pub listed_utf8 : (name : List ℕ) → IsUtf8 (listed_path name) → IsUtf8 name
 listed_utf8 name h = by (bytes_eq name (codes "-")) refl h
   where
     by : (t : Bool) → bytes_eq name (codes "-") ≡ t → IsUtf8 (if t then codes "./-" else name) → IsUtf8 name

@@ -1,2 +1,4 @@
 pub mod Laws
 pub mod Standing
+pub mod Left
+pub mod ShownLines
