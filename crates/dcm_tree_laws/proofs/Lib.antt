@@ -89,3 +89,8 @@ pub mod KeptFound
 pub mod KeptBy
 pub mod KeptTwice
 pub mod KeptFree
+pub mod OneParts
+pub mod VisitedBy
+pub mod StopsBy
+pub mod AllVisited
+pub mod VisitedRuns
