@@ -72,7 +72,7 @@ working_over {I} {O} {F} h = record {
   makes = λ before path r after call. call.0;
 }
 
-inputs_over : {I O : Type 0} (h : Host I O) → InputsOver (may_do {I = I} h)
+pub inputs_over : {I O : Type 0} (h : Host I O) → InputsOver (may_do {I = I} h)
 inputs_over h = record {
   stdin = λ before o after call. call;
   opens = λ before path r after call. call.0;
@@ -295,7 +295,7 @@ module _ {I O F W E : Type 0} (h : Host I O) (w : World FileSystem I O F E) (fol
 
 -- ---- the worlds
 
-each : {I O F W E : Type 0} (world_of : Host I O → World FileSystem I O F E) → ((h : Host I O) → FoldersOver h (world_of h).folders) → ((h : Host I O) → InputsOver (world_of h).may) → (rows : Writer W) → EachBeginsSo world_of rows
+pub each : {I O F W E : Type 0} (world_of : Host I O → World FileSystem I O F E) → ((h : Host I O) → FoldersOver h (world_of h).folders) → ((h : Host I O) → InputsOver (world_of h).may) → (rows : Writer W) → EachBeginsSo world_of rows
 each world_of folders_are inputs_are rows h run source start manifest from status left to after does =
     comes h (world_of h) (folders_are h) (inputs_are h) rows run source start manifest from status left to after does
 

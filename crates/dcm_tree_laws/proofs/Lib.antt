@@ -91,3 +91,8 @@ pub mod KeptTwice
 pub mod KeptFree
 pub mod Adding
 pub mod NamedBy
+pub mod OneParts
+pub mod VisitedBy
+pub mod StopsBy
+pub mod AllVisited
+pub mod VisitedRuns

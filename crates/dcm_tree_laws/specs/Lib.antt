@@ -23,3 +23,4 @@ pub mod Behind
 pub mod Kept
 pub mod Halves
 pub mod Course
+pub mod Visited

@@ -24,6 +24,7 @@ ghost use Rattle.dcm_tree_laws.specs.Told.{RowsAreTold};
 ghost use Rattle.dcm_tree_laws.specs.ToldAs.{RowsAreToldAs};
 ghost use Rattle.dcm_tree_laws.specs.Together.{FateIsTold, InstancesAreOne, NothingElse, NothingElseAs, PartsAreOne};
 ghost use Rattle.dcm_tree_laws.specs.Twice.{SecondIsStill};
+ghost use Rattle.dcm_tree_laws.specs.Visited.{FilesAreTold, FilesAreVisited, FilesOfRunAreTold, FilesOfRunAreVisited};
 
 use dcm_base::{DeviceIn, DeviceOut};
 use dcm_files::Folders;
@@ -76,6 +77,21 @@ pub fn one_row<S: Folders, W: DeviceOut, E: DeviceOut>()
     ensures list { OneRowOfList (world S.may_do S.folders_do S.Input.DeviceIn S.Output.DeviceOut E.DeviceOut)
         W.DeviceOut }
     ensures run { OneRowOfRun (world S.may_do S.folders_do S.Input.DeviceIn S.Output.DeviceOut E.DeviceOut) W.DeviceOut }
+{}
+
+/// A run over a folder visits each file in it once. Each regular file that was below it when it was opened is visited
+/// by its name, as a file with its mode, and no other visit is of that name. The rows of the manifest are those of
+/// these visits. Such a file lies behind folders and no links, at most 63 folders deep, and not in that of the
+/// outputs. Its path is text that the system takes, and it is no part. So it is where an open folder gives each name
+/// that was in it, once, where no look and no listing fails that need not, and where the run does not end before its
+/// last name. Where any call may fail, a file is so visited too, or its one visit says that it could not be looked at,
+/// or that of a folder on its way says so, or that this was not listed. Of a run as a whole it is said where the `.`
+/// in a folder is this folder.
+pub fn files_are_visited<I: DeviceIn, O: DeviceOut, W: DeviceOut, E: DeviceOut, F>()
+    ensures folder { FilesAreVisited F I.DeviceIn O.DeviceOut W.DeviceOut E.DeviceOut }
+    ensures told { FilesAreTold F I.DeviceIn O.DeviceOut W.DeviceOut E.DeviceOut }
+    ensures run { FilesOfRunAreVisited F I.DeviceIn O.DeviceOut W.DeviceOut E.DeviceOut }
+    ensures run_told { FilesOfRunAreTold F I.DeviceIn O.DeviceOut W.DeviceOut E.DeviceOut }
 {}
 
 /// A row that says that an output was written is right. At the end of a run the file is at its path in the folder of
