@@ -94,3 +94,4 @@ pub mod VisitedBy
 pub mod StopsBy
 pub mod AllVisited
 pub mod VisitedRuns
+pub mod NumberAt
