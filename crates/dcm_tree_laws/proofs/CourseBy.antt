@@ -8,7 +8,7 @@ use Rattle.dcm_files.specs.Devices.{MayDo, OpensInput}
 use Rattle.dcm_files.specs.Folders.{FoldersDo}
 use Rattle.dcm_files.specs.declared.folders.Found.{Found}
 use Rattle.dcm_files.specs.declared.folders.Links.{Links}
-use Rattle.dcm_files.specs.declared.folders.Links.TheVariants.{Kept}
+use Rattle.dcm_files.specs.declared.folders.Links.TheVariants.{Kept, Followed}
 use Rattle.dcm_files.specs.declared.opened.Opened.{Opened}
 use Rattle.dcm_tree_words.specs.Trees.{Source, folder, list}
 use Rattle.dcm_cli.specs.Calls.{Reader}
@@ -32,6 +32,7 @@ use Rattle.dcm_tree_laws.specs.Single.{as_held}
 use Rattle.dcm_tree_laws.proofs.Beginnings.{numbers, climbs, is_there, numbers_folder, compares, checks_part, checks_use}
 use Rattle.dcm_tree_laws.proofs.Left.{sure_quiet}
 use Rattle.dcm_tree_laws.proofs.Looking.{same_ok}
+use Rattle.dcm_tree_laws.proofs.NumberAt.{begun_at}
 use Rattle.dcm_tree_laws.proofs.Onwards.{calls_quiet}
 use Rattle.dcm_tree_laws.proofs.Quiet.{Quiet, are_quiet}
 use Rattle.dcm_tree_laws.proofs.Runs.{begun_part}
@@ -234,6 +235,7 @@ module _ {I O F : Type 0} (h : Host I O) (d : FoldersDo FileSystem O F) (is_over
         text = free.text;
         no_part = free.nothing;
         only = only.only;
+        number = begun_at h d is_over.quiet (λ before path found after call. is_over.finds before path Followed found after call) input is_list run.output.now (part_of run) run.options.continues (begins start) begun mid b;
       }
 
 -- ---- the run

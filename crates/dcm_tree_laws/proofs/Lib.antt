@@ -96,3 +96,4 @@ pub mod VisitedBy
 pub mod StopsBy
 pub mod AllVisited
 pub mod VisitedRuns
+pub mod NumberAt

@@ -6,8 +6,10 @@ use Rattle.dcm_devices.specs.Writing.{Writer}
 use Rattle.dcm_files.specs.Devices.{OpensInput}
 use Rattle.dcm_files.specs.declared.folders.Found.{Found}
 use Rattle.dcm_files.specs.declared.folders.FoundKind.TheVariants.{Folder}
+use Rattle.dcm_files.specs.declared.folders.Links.TheVariants.{Followed}
 use Rattle.dcm_files.specs.declared.opened.Opened.{Opened}
 use Rattle.dcm_names.specs.NamedLines.{unopened_line}
+use Rattle.dcm_walk.specs.declared.folder.FolderNumber.{FolderNumber}
 use Rattle.dcm_tree_words.specs.Trees.{Source, folder, list}
 use Rattle.dcm_cli.specs.Calls.{Reader, Reports}
 use Rattle.dcm_cli.specs.Status.{DEVICE}
@@ -36,8 +38,15 @@ pub record OnlyOutput {I O : Type 0} (h : Host I O) (output : List ℕ) (start n
   pub names : (place : List ℕ) → (now.at place ≡ start.at place) ⊎ IsMade h output place start now
   pub bytes : SameBytes start now
 
+-- it is the number of what is at a path, links followed
+pub record IsNumberAt {I O : Type 0} (h : Host I O) (t : Tree) (path : List ℕ) (number : FolderNumber) : Type 0 where
+  pub found : Found
+  pub is : t.at (h.leads Followed path) ≡ Some found
+  pub device_is : number.device ≡ found.device
+  pub number_is : number.number ≡ found.number
+
 -- a run was begun: no file is being written, no removing of a file failed, the path of the part is the run's own, it is
--- text, and nothing is there
+-- text, and nothing is there; and the folder of the outputs has the number of what is at its path
 pub record Ready {I O : Type 0} (h : Host I O) (run : TreeRun) (start : Tree) (begun : Begun) (now : FileSystem)
     : Type 0 where
   pub written : now.written ≡ None
@@ -46,6 +55,7 @@ pub record Ready {I O : Type 0} (h : Host I O) (run : TreeRun) (start : Tree) (b
   pub text : IsUtf8 (part_path run)
   pub no_part : at_path h now.now (part_path run) ≡ None
   pub only : OnlyOutput h run.output.now start now.now
+  pub number : IsNumberAt h now.now run.output.now begun.number
 
 -- It is refused before its first name, and the manifest is as it was. Or the first row of the manifest could not be
 -- written. Or the names of the folder, or of the list, that it was asked for are visited, from a state in which it was

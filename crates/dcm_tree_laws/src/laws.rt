@@ -56,11 +56,11 @@ pub fn never_half<I: DeviceIn, O: DeviceOut, W: DeviceOut, E: DeviceOut, F>()
 
 /// A run over a tree ends before its first name, or visits its names from a state as the laws of names ask for it. In
 /// that state no file is being written, no removing of a file has failed, the path of the part is the run's own and
-/// text, and nothing is there. Up to then no more was done than to make the folder of the outputs where nothing was. A
-/// run that is refused, or whose first row cannot be written, tells that and does no more either; where it is refused
-/// its manifest is as it was. So it is whatever calls fail. It is so too over each system that other laws ask for:
-/// where readers give what the files hold, where no look fails, and where no call fails that need not. There the names
-/// are visited over that same system.
+/// text, and nothing is there. The folder of the outputs is known by the number of what is at its path. Up to then no
+/// more was done than to make the folder of the outputs where nothing was. A run that is refused, or whose first row
+/// cannot be written, tells that and does no more either; where it is refused its manifest is as it was. So it is
+/// whatever calls fail. It is so too over each system that other laws ask for: where readers give what the files hold,
+/// where no look fails, and where no call fails that need not. There the names are visited over that same system.
 pub fn runs_begin_so<I: DeviceIn, O: DeviceOut, W: DeviceOut, E: DeviceOut, F>()
     ensures run { RunsBeginSo F I.DeviceIn O.DeviceOut W.DeviceOut E.DeviceOut }
     ensures held { RunsOfHeldBeginSo F I.DeviceIn O.DeviceOut W.DeviceOut E.DeviceOut }

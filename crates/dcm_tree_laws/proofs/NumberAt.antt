@@ -1,0 +1,92 @@
+-- The folder of the outputs is told from others by the number of what is at its path.
+use Rattle.std.proofs.Common.{◌≡◌, ◌∙◌, refl, sym, ap, subst, ℕ, List, Bool, Option, Some, None, Result, Ok, Err}
+use Rattle.std.specs.Prelude.{IfOk}
+use Rattle.dcm_files.specs.Folders.{FoldersDo}
+use Rattle.dcm_files.specs.declared.folders.Found.{Found}
+use Rattle.dcm_files.specs.declared.folders.Links.TheVariants.{Followed}
+use Rattle.dcm_walk.specs.declared.folder.FolderNumber.{FolderNumber}
+use Rattle.dcm_trees.specs.declared.beginning.Begun.{Begun}
+use Rattle.dcm_trees.specs.declared.beginning.Refusal.{Refusal}
+use Rattle.dcm_trees.specs.Beginning as spec
+use Rattle.dcm_trees.specs.Beginning.{Looks, Numbers, Climbed, Climbs, NumbersFolder, MakesOutput, Compares, MakesApart, HasOutput, Begins}
+use Rattle.dcm_tree_laws.specs.Course.{IsNumberAt}
+use Rattle.dcm_tree_laws.specs.FileSystem.{FileSystem, Tree, Host}
+use Rattle.dcm_tree_laws.proofs.Beginnings.{numbers, climbs, is_there, numbers_folder, compares, checks_part, checks_use}
+use Rattle.dcm_tree_laws.proofs.Looking.{same_ok}
+use Rattle.dcm_tree_laws.proofs.Quiet.{Quiet}
+
+by_state : {I O : Type 0} (h : Host I O) (path : List ℕ) (number : FolderNumber) (s t : FileSystem) → t ≡ s → IsNumberAt h s.now path number → IsNumberAt h t.now path number
+by_state h path number s t same at = subst (λ (x : FileSystem). IsNumberAt h x.now path number) (sym same) at
+
+by_number : {I O : Type 0} (h : Host I O) (path : List ℕ) (t : Tree) (a b : FolderNumber) (r : Result FolderNumber Refusal) → r ≡ Ok b → r ≡ Ok a → IsNumberAt h t path a → IsNumberAt h t path b
+by_number h path t a b r e f at = subst (IsNumberAt h t path) (same_ok r b a e f) at
+
+if_so : {A : Type 0} (IsSo : A → Type 0) (r : Result A Refusal) (a : A) → r ≡ Ok a → IsSo a → IfOk r IsSo
+if_so {A} IsSo r a is so = subst (λ (x : Result A Refusal). IfOk x IsSo) (sym is) so
+
+if_not : {A : Type 0} (IsSo : A → Type 0) (r : Result A Refusal) (e : Refusal) → r ≡ Err e → IfOk r IsSo
+if_not {A} IsSo r e is = subst (λ (x : Result A Refusal). IfOk x IsSo) (sym is) tt
+
+module _ {I O F : Type 0} (h : Host I O) (d : FoldersDo FileSystem O F) (quiet : Quiet d)
+    (finds : (before : FileSystem) (path : List ℕ) (found : Option Found) (after : FileSystem) → d.finds before path Followed (Ok found) after → found ≡ before.now.at (h.leads Followed path)) where
+  looked_at : (path : List ℕ) (before : FileSystem) (found : Found) (after : FileSystem) → Looks d path before (Ok (Some found)) after → IsNumberAt h before.now path (spec.number_of found)
+  looked_at path before found after (spec.no_text t is same) = absurd (cc)
+  looked_at path before found after (spec.looked other t call is) =
+      record { found = found; is = sym (finds before path other after call) ∙ same_ok (Ok other) (Some found) other (sym is) refl; device_is = refl; number_is = refl }
+  looked_at path before found after (spec.not_looked e t call is) = absurd (cc)
+
+  number_at : (path : List ℕ) (before : FileSystem) (number : FolderNumber) (after : FileSystem) → Numbers d path before (Ok number) after → IsNumberAt h before.now path number
+  number_at path before number after (spec.numbered found l is) = by_number h path before.now (spec.number_of found) number (Ok number) refl is (looked_at path before found after l)
+  number_at path before number after (spec.nothing l is) = absurd (cc)
+  number_at path before number after (spec.not_seen refusal l is) = absurd (cc)
+
+  climbed_at : (path : List ℕ) (other : FolderNumber) (before : FileSystem) (at : List ℕ) (first last : FolderNumber) (has_other : Bool) (after : FileSystem) → Climbed d path other before at first last has_other after → IsNumberAt h before.now path first
+  climbed_at path other before at first last has_other after (spec.itself n short a l o) = number_at path before first after n
+  climbed_at path other before at first last has_other after (spec.and_above from below had_other mid more short n apart a o) = climbed_at path other before from first below had_other mid more
+
+  climbs_at : (path : List ℕ) (other : FolderNumber) (before : FileSystem) (r : Result _ Refusal) (after : FileSystem) → Climbs d path other before r after → IfOk r (λ way. IsNumberAt h before.now path way.first)
+  climbs_at path other before r after (spec.not_begun refusal n is) = if_not _ r refusal is
+  climbs_at path other before r after (spec.too_long first n short is) = if_not _ r _ is
+  climbs_at path other before r after (spec.to_the_top at first last again has_other mid c short n same is) = if_so _ r _ is (climbed_at path other before at first last has_other mid c)
+  climbs_at path other before r after (spec.not_seen at first last has_other refusal mid c short n is) = if_not _ r refusal is
+  climbs_at path other before r after (spec.too_deep at first last has_other c short is) = if_not _ r _ is
+
+  folder_at : (path : List ℕ) (before : FileSystem) (number : FolderNumber) (after : FileSystem) → NumbersFolder d path before (Ok number) after → IsNumberAt h before.now path number
+  folder_at path before number after (spec.a_folder found l k is) = by_number h path before.now (spec.number_of found) number (Ok number) refl is (looked_at path before found after l)
+  folder_at path before number after (spec.no_folder found l k is) = absurd (cc)
+  folder_at path before number after (spec.nothing l is) = absurd (cc)
+  folder_at path before number after (spec.not_seen refusal l is) = absurd (cc)
+
+  compares_at : (input : List ℕ) (is_list : Bool) (output : List ℕ) (before : FileSystem) (number : FolderNumber) (after : FileSystem) → Compares d input is_list output before (Ok number) after → IsNumberAt h before.now output number
+  compares_at input is_list output before number after (spec.not_numbered refusal n is) = absurd (cc)
+  compares_at input is_list output before number after (spec.not_climbed read refusal mid n c is) = absurd (cc)
+  compares_at input is_list output before number after (spec.clashed read way refusal mid n c k is) = absurd (cc)
+  compares_at input is_list output before number after (spec.not_back read way refusal mid was n c k b is) = absurd (cc)
+  compares_at input is_list output before number after (spec.within read way back mid was n c k b o is) = absurd (cc)
+  compares_at input is_list output before number after (spec.apart read way back mid was n c k b o is) =
+      by_number h output before.now way.first number (Ok number) refl is (by_state h output way.first mid before (sym (numbers d quiet input before (Ok read) mid n)) (climbs_at output read mid (Ok way) was c))
+
+  makes_at : (output : List ℕ) (before : FileSystem) (number : FolderNumber) (after : FileSystem) → MakesOutput d output before (Ok number) after → IsNumberAt h after.now output number
+  makes_at output before number after (spec.not_made refusal m is) = absurd (cc)
+  makes_at output before number after (spec.made mid m n) = by_state h output number mid after (numbers_folder d quiet output mid (Ok number) after n) (folder_at output mid number after n)
+
+  apart_at : (input : List ℕ) (is_list : Bool) (output : List ℕ) (before : FileSystem) (number : FolderNumber) (after : FileSystem) → MakesApart d input is_list output before (Ok number) after → IsNumberAt h after.now output number
+  apart_at input is_list output before number after (spec.not_numbered refusal n is) = absurd (cc)
+  apart_at input is_list output before number after (spec.not_climbed read refusal mid n c is) = absurd (cc)
+  apart_at input is_list output before number after (spec.within read way mid n c k is) = absurd (cc)
+  apart_at input is_list output before number after (spec.made read way mid was n c k m) = makes_at output was number after m
+
+  has_at : (input : List ℕ) (is_list : Bool) (output : List ℕ) (before : FileSystem) (number : FolderNumber) (after : FileSystem) → HasOutput d input is_list output before (Ok number) after → IsNumberAt h after.now output number
+  has_at input is_list output before number after (spec.not_looked refusal l is) = absurd (cc)
+  has_at input is_list output before number after (spec.was_there looked l c) = by_state h output number looked after (compares d quiet input is_list output looked (Ok number) after c) (compares_at input is_list output looked number after c)
+  has_at input is_list output before number after (spec.not_there looked l m) = apart_at input is_list output looked number after m
+
+  -- it is so of a run that was begun
+  pub begun_at : (input : List ℕ) (is_list : Bool) (output name : List ℕ) (continues : Bool) (before : FileSystem) (begun : Begun) (after : FileSystem) → Begins d input is_list output name continues before (Ok begun) after → IsNumberAt h after.now output begun.number
+  begun_at input is_list output name continues before begun after (spec.no_output refusal has is) = absurd (cc)
+  begun_at input is_list output name continues before begun after (spec.no_part number refusal has p is) = absurd (cc)
+  begun_at input is_list output name continues before begun after (spec.has_part number path refusal mid has p c is) = absurd (cc)
+  begun_at input is_list output name continues before begun after (spec.in_use number path refusal mid checked has p c u is) = absurd (cc)
+  begun_at input is_list output name continues before begun after (spec.begun number path mid checked has p c u is) =
+      subst (λ (b : Begun). IsNumberAt h after.now output b.number) (same_ok (Ok begun) begun (record { number = number; part = path }) refl is)
+      (by_state h output number mid after (checks_use d quiet output continues checked (Ok _) after u ∙ checks_part d quiet path.items mid (Ok _) checked c) (has_at input is_list output before number mid has))
