@@ -7,9 +7,9 @@ ghost use Rattle.dcm_devices.specs.StdDevice.{any_read, any_write, any_flush};
 
 use either::Either;
 use std::alloc::Allocator;
-use std::fs::Files;
+use std::fs::{File, Files};
 use std::io;
-use std::io::{BufWriter, Read, Stderr, Write};
+use std::io::{BufReader, BufWriter, Read, Stderr, Stdin, Stdout, Write};
 
 /// A reader of the standard library. Proofs can name each answer of it.
 pub trait StdReader: Read {
@@ -52,6 +52,33 @@ impl<L: Read, R: Read> StdReader for Either<L, R> {
     }
 }
 
+impl StdReader for Stdin {
+    ghost may_read = { any_read };
+
+    #[inline(always)]
+    fn read_some(&mut self, typed: &mut [u8]) -> io::Result<usize> {
+        self.read(typed)
+    }
+}
+
+impl StdReader for File {
+    ghost may_read = { any_read };
+
+    #[inline(always)]
+    fn read_some(&mut self, part: &mut [u8]) -> io::Result<usize> {
+        self.read(part)
+    }
+}
+
+impl<R: Read, A: Allocator> StdReader for BufReader<R, A> {
+    ghost may_read = { any_read };
+
+    #[inline(always)]
+    fn read_some(&mut self, piece: &mut [u8]) -> io::Result<usize> {
+        self.read(piece)
+    }
+}
+
 /// The names of a folder.
 impl StdReader for <HostRuntime as Files>::Dir {
     ghost may_read = { any_read };
@@ -62,7 +89,39 @@ impl StdReader for <HostRuntime as Files>::Dir {
     }
 }
 
+impl StdWriter for Stdout {
+    ghost may_write = { any_write };
+
+    ghost may_flush = { any_flush };
+
+    #[inline(always)]
+    fn write_some(&mut self, bytes: &[u8]) -> io::Result<usize> {
+        self.write(bytes)
+    }
+
+    #[inline(always)]
+    fn hand_on(&mut self) -> io::Result<()> {
+        self.flush()
+    }
+}
+
 impl StdWriter for Stderr {
+    ghost may_write = { any_write };
+
+    ghost may_flush = { any_flush };
+
+    #[inline(always)]
+    fn write_some(&mut self, bytes: &[u8]) -> io::Result<usize> {
+        self.write(bytes)
+    }
+
+    #[inline(always)]
+    fn hand_on(&mut self) -> io::Result<()> {
+        self.flush()
+    }
+}
+
+impl StdWriter for File {
     ghost may_write = { any_write };
 
     ghost may_flush = { any_flush };
