@@ -25,7 +25,7 @@ TEXTS = {"dcmdump": "DUMP", "dcmconv": "CONVERT", "dump2dcm": "BUILD", "dcmodify
 OF_TREES = ("dcmconv", "dcmodify", "dcmdeid")
 MANUAL = "man/dcmtools.1"
 
-MOST_WORDS = 28_900
+MOST_WORDS = 29_000
 LONG, LONGEST, MOST_LONG = 30, 45, 25
 
 
