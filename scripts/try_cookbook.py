@@ -30,38 +30,16 @@ import tempfile
 import time
 from typing import Callable, NamedTuple
 
+from elements import IMPLICIT, JPEG, LITTLE, after_prefix, even_leaf as leaf, file_of, group, item, tag_bytes
 from try_texts import is_utf8
 
 ROOT = os.path.dirname(os.path.dirname(os.path.abspath(__file__)))
 PAGE = os.path.join(ROOT, "docs", "users", "COOKBOOK.md")
 
-IMPLICIT = b"1.2.840.10008.1.2\0"
-LITTLE = b"1.2.840.10008.1.2.1\0"
-JPEG = b"1.2.840.10008.1.2.4.50"
-
 NAMES = [b"Meier", b"Huber", b"M\xfcller", b"Hidden"]
 
 
 # ---- the bytes of files
-
-
-def leaf(tag, vr, value, explicit=True):
-    value += b" " * (len(value) % 2)
-    tag = struct.pack("<HH", tag >> 16, tag & 0xFFFF)
-    if not explicit:
-        return tag + struct.pack("<I", len(value)) + value
-    if vr in ("SQ", "UN", "OB"):
-        return tag + vr.encode() + struct.pack("<HI", 0, len(value)) + value
-    return tag + vr.encode() + struct.pack("<H", len(value)) + value
-
-
-def item(content):
-    return b"\xfe\xff\0\xe0" + struct.pack("<I", len(content)) + content
-
-
-def file_of(syntax, data_set):
-    group = leaf(0x00020010, "UI", syntax)
-    return bytes(128) + b"DICM" + leaf(0x00020000, "UL", struct.pack("<I", len(group))) + group + data_set
 
 
 MODALITY = leaf(0x00080060, "CS", b"CT")
@@ -72,8 +50,8 @@ STUDY, SERIES, INSTANCE = 0x0020000D, 0x0020000E, 0x00080018
 INSTANCE_UID = b"1.2.3."
 
 
-def uid(tag, number, explicit=True):
-    return leaf(tag, "UI", INSTANCE_UID + number + b"\0" * (len(number) % 2), explicit)
+def uid(tag, number, syntax=LITTLE):
+    return leaf(tag, "UI", INSTANCE_UID + number, syntax)
 
 
 def scan(name, number=b"7", after=b""):
@@ -88,28 +66,25 @@ def instance(name, number, after=b"", patient=None, before=b""):
 
 def plan(name):
     """In implicit VR, with a name in a sequence of known length that the extract lacks."""
-    inside = leaf(NAME, "", name, False) + leaf(DOSE, "", b"1", False)
-    return file_of(IMPLICIT, uid(INSTANCE, b"9", False) + leaf(0x00080060, "", b"RTPLAN", False) + leaf(NAME, "", name, False) + leaf(ID, "", b"9", False)
-                   + uid(STUDY, b"9", False) + uid(SERIES, b"9", False)
-                   + leaf(DOSES, "", item(inside), False))
+    inside = leaf(NAME, "", name, IMPLICIT) + leaf(DOSE, "", b"1", IMPLICIT)
+    return file_of(IMPLICIT, uid(INSTANCE, b"9", IMPLICIT) + leaf(0x00080060, "", b"RTPLAN", IMPLICIT) + leaf(NAME, "", name, IMPLICIT) + leaf(ID, "", b"9", IMPLICIT)
+                   + uid(STUDY, b"9", IMPLICIT) + uid(SERIES, b"9", IMPLICIT)
+                   + leaf(DOSES, "", item(inside), IMPLICIT))
 
 
-OPAQUE = leaf(OVERLAY, "UN", item(leaf(NAME, "", b"Hidden", False)))
-UNKNOWN = leaf(DOSES, "UN", item(leaf(NAME, "", b"Hidden", False)))
-PRIVATE = leaf(0x00110010, "LO", b"MAKER") + leaf(0x00111001, "UN", item(leaf(NAME, "", b"Hidden", False)))
+OPAQUE = leaf(OVERLAY, "UN", item(leaf(NAME, "", b"Hidden", IMPLICIT)))
+UNKNOWN = leaf(DOSES, "UN", item(leaf(NAME, "", b"Hidden", IMPLICIT)))
+PRIVATE = leaf(0x00110010, "LO", b"MAKER") + leaf(0x00111001, "UN", item(leaf(NAME, "", b"Hidden", IMPLICIT)))
 # a dump of this is larger than what a pipe holds
 LARGE = leaf(0x00400275, "SQ", item(leaf(0x00080104, "LO", b"a meaning")) * 1000)
 
 # a DICOMDIR: MediaStorageDirectoryStorage, and a record
 RECORD = leaf(0x00041200, "UL", b"\0\0\0\0") + leaf(0x00041220, "SQ", item(leaf(0x00041430, "CS", b"PATIENT")))
-DIRECTORY = (
-    bytes(128) + b"DICM" + leaf(0x00020000, "UL", struct.pack("<I", 56)) + leaf(0x00020002, "UI", b"1.2.840.10008.1.3.10")
-    + leaf(0x00020010, "UI", LITTLE) + RECORD
-)
+DIRECTORY = after_prefix(group(leaf(0x00020002, "UI", b"1.2.840.10008.1.3.10"), leaf(0x00020010, "UI", LITTLE)) + RECORD)
 
 SCAN = scan(b"AB^CD")
-PLAN = file_of(IMPLICIT, leaf(0x00080060, "", b"RTPLAN", False) + leaf(DOSES, "", item(leaf(DOSE, "", b"1", False)), False))
-SET = leaf(NAME, "", b"Meier^Anna", False) + leaf(ID, "", b"7", False)
+PLAN = file_of(IMPLICIT, leaf(0x00080060, "", b"RTPLAN", IMPLICIT) + leaf(DOSES, "", item(leaf(DOSE, "", b"1", IMPLICIT)), IMPLICIT))
+SET = leaf(NAME, "", b"Meier^Anna", IMPLICIT) + leaf(ID, "", b"7", IMPLICIT)
 
 
 class Input(NamedTuple):
@@ -447,7 +422,7 @@ def without_identity(run, content, key, *options):
 
 def uid_in(content, tag):
     """A unique identifier of a file, without padding."""
-    at = content.index(struct.pack("<HH", tag >> 16, tag & 0xFFFF)) + 4
+    at = content.index(tag_bytes(tag, LITTLE)) + 4
     size = struct.unpack_from("<H", content, at + 2)[0] if content[at : at + 2] == b"UI" else struct.unpack_from("<I", content, at)[0]
     return content[at + 4 : at + 4 + size].rstrip(b"\0 ")
 

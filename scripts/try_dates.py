@@ -16,25 +16,17 @@ import tempfile
 import time
 from pathlib import Path
 
-HEAD = (b"\0" * 128 + b"DICM" + bytes.fromhex("02000000554c04001c000000 020010005549 1400".replace(" ", ""))
-        + b"1.2.840.10008.1.2.1\0")
-SEQUENCE = bytes.fromhex("08004011 53510000 ffffffff".replace(" ", ""))
-ITEM = bytes.fromhex("feff00e0 ffffffff".replace(" ", ""))
-ITEM_END = bytes.fromhex("feff0de0 00000000".replace(" ", ""))
-SEQUENCE_END = bytes.fromhex("feffdde0 00000000".replace(" ", ""))
-STUDY_DATE = b"\x08\0\x20\0DA"
+from elements import LITTLE, even_leaf, file_of, leaf, open_item, open_sequence, tag_bytes
+
+HEAD = file_of(LITTLE, b"")
+IMAGES, STUDY_DATE, ID = 0x00081140, 0x00080020, 0x00100020
 DATES_OF_A_VALUE = 28
 VALUES_OF_A_FILE = 4_000
 
 
-def element(value: bytes) -> bytes:
-    """A StudyDate in an item."""
-    even = value + b" " * (len(value) % 2)
-    return ITEM + STUDY_DATE + len(even).to_bytes(2, "little") + even + ITEM_END
-
-
 def sequence_of(values: list) -> bytes:
-    return SEQUENCE + b"".join(map(element, values)) + SEQUENCE_END
+    """A sequence in which each item has a StudyDate."""
+    return open_sequence(IMAGES, b"".join(open_item(even_leaf(STUDY_DATE, "DA", value)) for value in values))
 
 
 def moved(binary: str, days: int, values: list) -> bytes:
@@ -62,19 +54,14 @@ def expect(binary: str, days: int, values: list, wanted: list) -> int:
     return wrong
 
 
-def leaf(group: int, number: int, vr: bytes, value: bytes) -> bytes:
-    even = value + b" " * (len(value) % 2)
-    return group.to_bytes(2, "little") + number.to_bytes(2, "little") + vr + len(even).to_bytes(2, "little") + even
-
-
 def of_patient(name: bytes, date: datetime.date) -> bytes:
     """A file of a patient, with a date."""
-    return HEAD + leaf(8, 0x20, b"DA", text(date)) + leaf(0x10, 0x20, b"LO", name)
+    return file_of(LITTLE, even_leaf(STUDY_DATE, "DA", text(date)) + even_leaf(ID, "LO", name))
 
 
 def dates_in(output: bytes) -> list:
     """The date of an output."""
-    at = output.index(STUDY_DATE) + len(STUDY_DATE) + 2
+    at = output.index(tag_bytes(STUDY_DATE, LITTLE)) + len(leaf(STUDY_DATE, "DA", b""))
     return [datetime.datetime.strptime(output[at:at + 8].decode(), "%Y%m%d").date()]
 
 

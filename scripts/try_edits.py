@@ -117,19 +117,35 @@ def words_of(text: str) -> str:
 
 # ---- the record
 
-def record() -> dict[str, list[str]]:
-    if not RECORD.exists():
+def rows_of(path: Path) -> dict[str, list[str]]:
+    """The rows of a record, by their crates."""
+    if not path.exists():
         return {}
-    rows = [line.split("\t") for line in RECORD.read_text().splitlines() if not line.startswith("#")]
+    rows = [line.split("\t") for line in path.read_text().splitlines() if not line.startswith("#")]
     return {row[0]: row[1:] for row in rows}
 
 
+def note_row(path: Path, head: str, crate: str, row: list[str]) -> None:
+    """Notes the row of a crate in a record, which is in the order of crates.txt."""
+    rows = rows_of(path) | {crate: row}
+    lines = [head, *("\t".join([name, *rows[name]]).rstrip("\t") for name in crates_in_order() if name in rows)]
+    path.write_text("\n".join(lines) + "\n")
+
+
+def write_table(begin: str, lines: list[str], end: str) -> None:
+    """Writes a table into the page, between two marks."""
+    page = PAGE.read_text()
+    before, rest = page.split(begin)
+    PAGE.write_text(before + "\n".join([begin, "", *lines, "", end]) + rest.split(end)[1])
+
+
+def record() -> dict[str, list[str]]:
+    return rows_of(RECORD)
+
+
 def note(crate: str, refused: int) -> None:
-    rows = record()
-    rows[crate] = [checksum(crate), datetime.date.today().isoformat(), str(refused)]
-    lines = ["# crate\tchecksum\tday\tedits that were refused for a goal"]
-    lines += ["\t".join([name, *rows[name]]) for name in crates_with_edits() if name in rows]
-    RECORD.write_text("\n".join(lines) + "\n")
+    row = [checksum(crate), datetime.date.today().isoformat(), str(refused)]
+    note_row(RECORD, "# crate\tchecksum\tday\tedits that were refused for a goal", crate, row)
 
 
 def changed() -> list[str]:
@@ -146,15 +162,13 @@ def check() -> int:
 
 def table() -> int:
     rows, stale = record(), changed()
-    lines = [BEGIN, "", "| Crate | In the gate | In `scripts/edits` | Refused for a goal | Tried |", "|---|---|---|---|---|"]
+    lines = ["| Crate | In the gate | In `scripts/edits` | Refused for a goal | Tried |", "|---|---|---|---|---|"]
     for name in crates_with_edits():
         in_gate = len(edits_of(name)) - len(edits_of(name, True))
         _, day, refused = rows.get(name, ["", "not noted", "-"])
         tried = f"{day}, changed since" if name in stale and name in rows else day
         lines.append(f"| {name} | {in_gate} | {len(edits_of(name, True))} | {refused} | {tried} |")
-    page = PAGE.read_text()
-    before, rest = page.split(BEGIN)
-    PAGE.write_text(before + "\n".join([*lines, "", END]) + rest.split(END)[1])
+    write_table(BEGIN, lines, END)
     return 0
 
 

@@ -35,13 +35,14 @@ import collections
 import os
 import re
 import shutil
-import struct
 import subprocess
 import sys
 import tempfile
 from concurrent.futures import ThreadPoolExecutor
 from pathlib import Path
 from typing import NamedTuple
+
+from elements import LITTLE, after_prefix, even_leaf as element, group, item
 
 ROOT = Path(__file__).resolve().parent.parent
 
@@ -150,27 +151,15 @@ class Ended(NamedTuple):
 # The files that are read.
 
 
-def element(tag, vr, value):
-    value += (b"\0" if vr == b"UI" else b" ") * (len(value) % 2)
-    is_long = vr in (b"OW", b"SQ", b"UN")
-    length = struct.pack("<HI", 0, len(value)) if is_long else struct.pack("<H", len(value))
-    return struct.pack("<HH", tag >> 16, tag & 0xFFFF) + vr + length + value
-
-
 def dicom(pixels, name=b"AB^CD"):
     """A file with a sequence, a private element, a name, and this many bytes of pixels."""
-    group = element(0x00020003, b"UI", b"1.2.3.4") + element(0x00020010, b"UI", b"1.2.840.10008.1.2.1")
-    item = element(0x00081150, b"UI", b"1.2.3") + element(0x00081155, b"UI", b"1.2.4")
-    return (
-        bytes(128)
-        + b"DICM"
-        + element(0x00020000, b"UL", struct.pack("<I", len(group)))
-        + group
-        + element(0x00081140, b"SQ", struct.pack("<HHI", 0xFFFE, 0xE000, len(item)) + item)
-        + element(0x00090010, b"LO", b"OWNER")
-        + element(0x00100010, b"PN", name)
-        + element(0x00100020, b"LO", b"7")
-        + (element(0x7FE00010, b"OW", bytes(range(256)) * (pixels // 256)) if pixels else b"")
+    return after_prefix(
+        group(element(0x00020003, "UI", b"1.2.3.4"), element(0x00020010, "UI", LITTLE))
+        + element(0x00081140, "SQ", item(element(0x00081150, "UI", b"1.2.3") + element(0x00081155, "UI", b"1.2.4")))
+        + element(0x00090010, "LO", b"OWNER")
+        + element(0x00100010, "PN", name)
+        + element(0x00100020, "LO", b"7")
+        + (element(0x7FE00010, "OW", bytes(range(256)) * (pixels // 256)) if pixels else b"")
     )
 
 
@@ -182,7 +171,7 @@ def lines(count):
 
 SMALL, BIG = dicom(0), dicom(PIXELS)
 KEY = b"a key of 16 byte"
-SHOWN_PIXELS = SMALL + element(0x00280301, b"CS", b"YES")
+SHOWN_PIXELS = SMALL + element(0x00280301, "CS", b"YES")
 EDITS = ["-m", "PatientName=X", "-ea", "PatientID", "-ep", "-i", "ReferencedImageSequence[0].ReferencedSOPInstanceUID=1.2"]
 NO_PLACE = ["-m", "Rows=7", "-e", "Columns"]
 

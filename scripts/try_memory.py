@@ -15,6 +15,8 @@ import sys
 import tempfile
 from pathlib import Path
 
+from elements import LITTLE, file_of, leaf
+
 ALLOCATOR = r"""
 #include <errno.h>
 #include <fcntl.h>
@@ -55,8 +57,7 @@ int posix_memalign(void **place, size_t align, size_t size) {
 }
 """
 
-UID = b"1.2.840.10008.1.2.1\0"
-FILE = bytes(128) + b"DICM" + b"\x02\0\0\0UL\x04\0\x1c\0\0\0" + b"\x02\0\x10\0UI\x14\0" + UID + b"\x10\0\x10\0PN\x06\0AB^CD "
+FILE = file_of(LITTLE, leaf(0x00100010, "PN", b"AB^CD "))
 
 MOST_CALLS = 1000
 

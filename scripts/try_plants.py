@@ -106,10 +106,7 @@ def unanswered(crate: str, planted: list[Planted], right: str) -> list[str]:
 # ---- the record
 
 def record() -> dict[str, list[str]]:
-    if not RECORD.exists():
-        return {}
-    rows = [line.split("\t") for line in RECORD.read_text().splitlines() if not line.startswith("#")]
-    return {row[0]: row[1:] for row in rows}
+    return try_edits.rows_of(RECORD)
 
 
 def right_of(crate: str) -> str:
@@ -123,11 +120,9 @@ def checksum(crate: str) -> str:
 
 
 def note(crate: str, counts: Counts) -> None:
-    rows = record()
-    rows[crate] = [checksum(crate), datetime.date.today().isoformat(), *map(str, counts), right_of(crate)]
-    lines = ["# crate\tchecksum\tday\trefused\topen at a limit\tfunctions without more\twhat proves, and is right"]
-    lines += ["\t".join([name, *rows[name]]).rstrip("\t") for name in try_edits.crates_in_order() if name in rows]
-    RECORD.write_text("\n".join(lines) + "\n")
+    row = [checksum(crate), datetime.date.today().isoformat(), *map(str, counts), right_of(crate)]
+    head = "# crate\tchecksum\tday\trefused\topen at a limit\tfunctions without more\twhat proves, and is right"
+    try_edits.note_row(RECORD, head, crate, row)
 
 
 def check() -> int:
@@ -140,14 +135,12 @@ def check() -> int:
 
 def table() -> int:
     rows = record()
-    lines = [BEGIN, "", "| Crate | Day | Refused | Open at a limit | Functions without more | What proves, and is right |", "|---|---|---|---|---|---|"]
+    lines = ["| Crate | Day | Refused | Open at a limit | Functions without more | What proves, and is right |", "|---|---|---|---|---|---|"]
     for name, row in rows.items():
         _, day, refused, at_a_limit, no_more, *right = row
         changed = ", changed since" if row[0] not in (BEFORE, checksum(name)) else ""
         lines.append(f"| {name} | {day}{changed} | {refused} | {at_a_limit} | {no_more} | {' '.join(right)} |")
-    page = PAGE.read_text()
-    before, rest = page.split(BEGIN)
-    PAGE.write_text(before + "\n".join([*lines, "", END]) + rest.split(END)[1])
+    try_edits.write_table(BEGIN, lines, END)
     return 0
 
 

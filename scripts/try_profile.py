@@ -18,71 +18,11 @@ import sys
 import tempfile
 from typing import NamedTuple
 
+from elements import (
+    BIG, IMPLICIT, JPEG, LITTLE, UNDEFINED, after_prefix, file_of, group, head, item, leaf, open_item, open_sequence, padded, sequence,
+)
+
 ROOT = os.path.dirname(os.path.dirname(os.path.abspath(__file__)))
-
-IMPLICIT = b"1.2.840.10008.1.2"
-LITTLE = b"1.2.840.10008.1.2.1"
-BIG = b"1.2.840.10008.1.2.2"
-JPEG = b"1.2.840.10008.1.2.4.50"
-
-LONG_FORM = "OB OD OF OL OV OW SQ SV UC UN UR UT UV ZZ".split()
-UNDEFINED = 0xFFFFFFFF
-
-
-# ---- the bytes of files (PS3.5 7.1, 7.5; PS3.10 7.1)
-
-
-def order(uid):
-    return ">" if uid == BIG else "<"
-
-
-def tag_bytes(tag, uid):
-    return struct.pack(order(uid) + "HH", tag >> 16, tag & 0xFFFF)
-
-
-def head(tag, vr, size, uid=LITTLE):
-    if uid == IMPLICIT or tag >> 16 == 0xFFFE:
-        return tag_bytes(tag, uid) + struct.pack(order(uid) + "I", size)
-    if vr in LONG_FORM:
-        return tag_bytes(tag, uid) + vr.encode() + bytes(2) + struct.pack(order(uid) + "I", size)
-    return tag_bytes(tag, uid) + vr.encode() + struct.pack(order(uid) + "H", size)
-
-
-def leaf(tag, vr, value, uid=LITTLE):
-    return head(tag, vr, len(value), uid) + value
-
-
-def item(content, uid=LITTLE):
-    return head(0xFFFEE000, "", len(content), uid) + content
-
-
-def open_item(content, uid=LITTLE):
-    return head(0xFFFEE000, "", UNDEFINED, uid) + content + head(0xFFFEE00D, "", 0, uid)
-
-
-def sequence(tag, content, uid=LITTLE, vr="SQ"):
-    return leaf(tag, vr, content, uid)
-
-
-def open_sequence(tag, content, uid=LITTLE, vr="SQ"):
-    return head(tag, vr, UNDEFINED, uid) + content + head(0xFFFEE0DD, "", 0, uid)
-
-
-def padded(uid):
-    return uid + bytes(len(uid) % 2)
-
-
-def group(*leaves):
-    content = b"".join(leaves)
-    return leaf(0x00020000, "UL", struct.pack("<I", len(content))) + content
-
-
-def file_of(uid, data_set, preamble=bytes(128)):
-    return preamble + b"DICM" + group(leaf(0x00020010, "UI", padded(uid))) + data_set
-
-
-def after_prefix(content):
-    return bytes(128) + b"DICM" + content
 
 
 NAME = 0x00100010

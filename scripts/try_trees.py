@@ -28,7 +28,6 @@ import random
 import re
 import shutil
 import stat
-import struct
 import subprocess
 import sys
 import tempfile
@@ -38,8 +37,9 @@ from typing import NamedTuple
 
 sys.dont_write_bytecode = True
 
+from elements import IMPLICIT, even_leaf, file_of, leaf
 from try_faults import calls_of, faults_of_call, faults_of_memory
-from try_program import IMPLICIT_GROUP, NAME, ROOT
+from try_program import NAME, ROOT
 
 HEADER = b'"File","Output","Status"\n'
 PLAIN_MODE = 0o644
@@ -235,7 +235,7 @@ def differences_of_trees(wanted, got):
 
 
 CUT, TEXT = NAME[:-1], b"no DICOM\n" * 20
-OTHER = IMPLICIT_GROUP + b"\x10\0\x10\0\4\0\0\0E^F "
+OTHER = file_of(IMPLICIT, leaf(0x00100010, "PN", b"E^F ", IMPLICIT))
 CONVERTED = Alone("dcmconv", NAME)
 FOLDER = {b"in/a": NAME, b"in/x/b": OTHER}
 DONE = {b"out/a": CONVERTED, b"out/x/b": Alone("dcmconv", OTHER)}
@@ -245,16 +245,13 @@ CUT_OFF = b": another run is at work, or was cut off"
 UNOPENED, OUTPUT_UNOPENED = b"input cannot be opened", b"output cannot be opened"
 
 
-def element(group, number, value):
-    """In implicit VR, its value padded."""
-    value += b"\0" * (len(value) % 2)
-    return struct.pack("<HHI", group, number, len(value)) + value
+SOP_INSTANCE_UID, PATIENT_ID, STUDY_UID, SERIES_UID, BURNED_IN = 0x00080018, 0x00100020, 0x0020000D, 0x0020000E, 0x00280301
 
 
 def instance(study, series, uid, *, patient=b"7 ", pixels=b"NO"):
     """A file of an instance; an identifier that is None is missing."""
-    elements = [(8, 0x18, uid), (0x10, 0x20, patient), (0x20, 0xD, study), (0x20, 0xE, series), (0x28, 0x301, pixels + b" " * (len(pixels) % 2))]
-    return IMPLICIT_GROUP + b"".join(element(*of) for of in elements if of[2] is not None)
+    elements = [(SOP_INSTANCE_UID, "UI", uid), (PATIENT_ID, "LO", patient), (STUDY_UID, "UI", study), (SERIES_UID, "UI", series), (BURNED_IN, "CS", pixels)]
+    return file_of(IMPLICIT, b"".join(even_leaf(*of, IMPLICIT) for of in elements if of[2] is not None))
 
 
 def written(*names, word=b"written"):
@@ -302,7 +299,7 @@ UNFIT_INSTANCES = {
     b"in/text": instance(b"1.2", b"1.3", b"1.x4"), b"in/long": instance(b"1.2", b"1.3", b"1" * 65), b"in/series": instance(b"1.2", b" ", None),
     b"in/uid": instance(b"1.2", b"1.3", b"1.4\0\0.")}
 KEY = bytes(range(32))
-NOBODY_NAMED = b"R17 at byte %d: no usable PatientID" % (len(IMPLICIT_GROUP) + len(element(8, 0x18, b"1.4")))
+NOBODY_NAMED = b"R17 at byte %d: no usable PatientID" % (len(file_of(IMPLICIT, even_leaf(SOP_INSTANCE_UID, "UI", b"1.4", IMPLICIT))))
 
 # names and the parts that they are of: FNV-1a of a, x/b is e40c292c, dbcc90ee (part 1 of 2), of b, l e70c2de5, e90c310b (part 2)
 HALVES = {b"in/a": NAME, b"in/b": CUT, b"in/x/b": NAME, b"in/l": Link(b"a")}

@@ -1,5 +1,7 @@
 -- What a device over a reader or a writer of the standard library answers: what one call on that answered.
-use Rattle.std.specs.Prelude.{◌≡◌, ℕ, List, Result, Ok, Err, MatchResult, IfOk}
+use Rattle.std.specs.Prelude.{◌≡◌, ℕ, List, ◌++◌, length, Result, Ok, Err, MatchResult, IfOk, IfErr, OnOk, OnErr}
+use Rattle.std.specs.IoError.{error_kind}
+use Rattle.std.specs.declared.io.ErrorKind.TheVariants.{OutOfMemory}
 use Rattle.std.specs.declared.io.Error.{Error}
 use Rattle.dcm_devices.specs.declared.device.ReadFailed.{ReadFailed}
 use Rattle.dcm_devices.specs.declared.device.WriteFailed.{WriteFailed}
@@ -15,6 +17,11 @@ any_write before bytes r after = Unit {0}
 -- or flushes
 abbrev pub any_flush : {T : Type 0} → T → Result (Unit {0}) Error → T → Type 0
 any_flush before r after = Unit {0}
+
+-- all bytes were added behind those before; or, where there is no room for them, none
+abbrev pub TakesAll : (before bytes : List ℕ) → Result ℕ Error → (after : List ℕ) → Type 0
+TakesAll before bytes r after = IfOk r (λ n. n ≡ length bytes) × OnOk r (after ≡ before ++ bytes)
+    × IfErr r (λ e. error_kind e ≡ OutOfMemory) × OnErr r (after ≡ before)
 
 -- the reader was called once. Its answer is given, and the device fails only where it was an error
 abbrev pub ReadOnce : {T : Type 0} → (may_read : T → Result ℕ Error → List ℕ → T → Type 0)

@@ -1,9 +1,10 @@
 // What a device of the standard library calls.
-ghost use Rattle.std.specs.Prelude.{ℕ, List, Result};
+ghost use Rattle.std.specs.Prelude.{◌≡◌, ℕ, List, [], Result, IsOk, OnOk};
+ghost use Rattle.std.specs.Io.Buffered.{writer_buffer};
 ghost use Rattle.std.specs.Io.{ReadsAtMost, WritesAtMost};
 ghost use Rattle.std.specs.Io.KnownBytes.{ReadConsumes, WriteAppends, Keeps};
 ghost use Rattle.std.specs.declared.io.Error.{Error};
-ghost use Rattle.dcm_devices.specs.StdDevice.{any_read, any_write, any_flush};
+ghost use Rattle.dcm_devices.specs.StdDevice.{any_read, any_write, any_flush, TakesAll};
 
 use either::Either;
 use std::alloc::Allocator;
@@ -138,9 +139,9 @@ impl StdWriter for File {
 }
 
 impl<A: Allocator> StdWriter for Vec<u8, A> {
-    ghost may_write = { any_write };
+    ghost may_write = { λ before bytes r after. TakesAll before.items bytes r after.items };
 
-    ghost may_flush = { any_flush };
+    ghost may_flush = { λ before r after. IsOk r × (after ≡ before) };
 
     #[inline(always)]
     fn write_some(&mut self, added: &[u8]) -> io::Result<usize> {
@@ -156,7 +157,7 @@ impl<A: Allocator> StdWriter for Vec<u8, A> {
 impl<W: Write + Drop, A: Allocator> StdWriter for BufWriter<W, A> {
     ghost may_write = { any_write };
 
-    ghost may_flush = { any_flush };
+    ghost may_flush = { λ before r after. OnOk r (writer_buffer after ≡ []) };
 
     #[inline(always)]
     fn write_some(&mut self, buf: &[u8]) -> io::Result<usize> {

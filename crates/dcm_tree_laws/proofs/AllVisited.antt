@@ -1,5 +1,5 @@
 -- A run over a folder visits each file below it once, where listing a folder gives the names in it.
-use Rattle.std.proofs.Common.{◌≡◌, ◌∙◌, refl, sym, ap, subst, inl, inr, ◌⊎◌, ℕ, ◌+◌, ◌<◌, ◌≤◌, List, [], ◌∷◌, ◌++◌, length, take, drop, Option, Some, None, Result, Ok, Err, arith, length-append}
+use Rattle.std.proofs.Common.{◌≡◌, ◌∙◌, refl, sym, ap, subst, inl, inr, ◌⊎◌, ℕ, ◌+◌, ◌≤◌, List, [], ◌∷◌, ◌++◌, length, take, drop, Option, Some, None, Result, Ok, arith, length-append}
 use Rattle.std.specs.Prelude.{◌≢◌, codes, true}
 use Rattle.std.proofs.lemmas.List.{length-take, length-drop}
 use Rattle.dcm_devices.specs.Writing.{Writer}
@@ -25,7 +25,7 @@ use Rattle.dcm_trees.specs.Tree.{VisitsAll}
 use Rattle.dcm_trees.specs.Work.{visits_of}
 use Rattle.dcm_trees.specs.World.{world}
 use Rattle.dcm_tree_laws.specs.Again.{OfAll}
-use Rattle.dcm_tree_laws.specs.Course.{IsMade, OnlyOutput, Ready}
+use Rattle.dcm_tree_laws.specs.Course.{IsMade, Ready}
 use Rattle.dcm_tree_laws.specs.FileSystem.{FileSystem, Tree, Host, number_of, place_of, may_do, folders_do}
 use Rattle.dcm_tree_laws.specs.Laws.{IsOutput, part_path}
 use Rattle.dcm_tree_laws.specs.OneRow.{FolderHasRows}

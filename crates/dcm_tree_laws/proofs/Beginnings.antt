@@ -22,7 +22,7 @@ numbers d q path before r after (spec.numbered found l is) = looks d q path befo
 numbers d q path before r after (spec.nothing l is) = looks d q path before (Ok None) after l
 numbers d q path before r after (spec.not_seen refusal l is) = looks d q path before (Err refusal) after l
 
-climbed : {S O F : Type 0} (d : FoldersDo S O F) → Quiet d → (path : List ℕ) (other : FolderNumber) (before : S) (at : List ℕ) (first last : FolderNumber) (has_other : Bool) (after : S) → Climbed d path other before at first last has_other after → after ≡ before
+pub climbed : {S O F : Type 0} (d : FoldersDo S O F) → Quiet d → (path : List ℕ) (other : FolderNumber) (before : S) (at : List ℕ) (first last : FolderNumber) (has_other : Bool) (after : S) → Climbed d path other before at first last has_other after → after ≡ before
 climbed d q path other before at first last has_other after (spec.itself n short a l o) = numbers d q path before (Ok first) after n
 climbed d q path other before at first last has_other after (spec.and_above from below had_other mid more short n apart a o) =
     numbers d q (spec.above from) mid (Ok last) after n ∙ climbed d q path other before from first below had_other mid more

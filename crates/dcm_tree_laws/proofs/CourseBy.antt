@@ -52,7 +52,7 @@ pub record InputsOver {I O : Type 0} (may : MayDo FileSystem I O) : Type 0 where
   pub opens : (before : FileSystem) (path : List ℕ) (r : Result (Opened I) Error) (after : FileSystem) → may.opens before path r after → after ≡ before
   pub releases : (before : FileSystem) (input : I) (after : FileSystem) → may.releases before input after → after ≡ before
 
-folders_over : {I O F : Type 0} (h : Host I O) → FoldersOver h (folders_do {F = F} h)
+pub folders_over : {I O F : Type 0} (h : Host I O) → FoldersOver h (folders_do {F = F} h)
 folders_over h = record {
   quiet = are_quiet h;
   finds = λ before path links found after call. call.0;
@@ -94,7 +94,7 @@ opens_folder d quiet path before opened after (spec.no_text t is same) = same
 opens_folder d quiet path before opened after (spec.not_opened e t call is) = quiet.opens before path (Err e) after call
 opens_folder d quiet path before opened after (spec.was_opened f t call is) = quiet.opens before path (Ok f) after call
 
-opens_tree : {S O F : Type 0} (d : FoldersDo S O F) → Quiet d → (path : List ℕ) (before : S) (opened : Option F) (after : S) → OpensTree d path before opened after → after ≡ before
+pub opens_tree : {S O F : Type 0} (d : FoldersDo S O F) → Quiet d → (path : List ℕ) (before : S) (opened : Option F) (after : S) → OpensTree d path before opened after → after ≡ before
 opens_tree d quiet path before opened after (spec.followed own is o) = opens_folder d quiet own before opened after o
 opens_tree d quiet path before opened after (spec.too_long is o) = opens_folder d quiet path before opened after o
 
@@ -221,7 +221,7 @@ module _ {I O F : Type 0} (h : Host I O) (d : FoldersDo FileSystem O F) (is_over
       subst (λ (b : Begun). IsFree h b.part.items after.now) (same_ok (Ok begun) begun (record { number = number; part = path }) refl is)
       (subst (λ (s : FileSystem). IsFree h path.items s.now) (sym (checks_use d is_over.quiet output continues checked (Ok _) after u)) (nothing_there path.items mid checked c))
 
-  ready : (run : TreeRun) (start : Tree) (input : List ℕ) (is_list : Bool) (begun : Begun) (mid : FileSystem) → Begins d input is_list run.output.now (part_of run) run.options.continues (begins start) (Ok begun) mid
+  pub ready : (run : TreeRun) (start : Tree) (input : List ℕ) (is_list : Bool) (begun : Begun) (mid : FileSystem) → Begins d input is_list run.output.now (part_of run) run.options.continues (begins start) (Ok begun) mid
       → Ready h run start begun mid
   ready run start input is_list begun mid b =
       let only : Only h run.output.now (begins start) mid = begins_only input is_list run.output.now (part_of run) run.options.continues (begins start) (Ok begun) mid b in

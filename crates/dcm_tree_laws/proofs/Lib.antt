@@ -97,3 +97,5 @@ pub mod StopsBy
 pub mod AllVisited
 pub mod VisitedRuns
 pub mod NumberAt
+pub mod ApartBy
+pub mod LinesBy

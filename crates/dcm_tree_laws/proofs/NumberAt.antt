@@ -1,5 +1,5 @@
 -- The folder of the outputs is told from others by the number of what is at its path.
-use Rattle.std.proofs.Common.{◌≡◌, ◌∙◌, refl, sym, ap, subst, ℕ, List, Bool, Option, Some, None, Result, Ok, Err}
+use Rattle.std.proofs.Common.{◌≡◌, ◌∙◌, refl, sym, subst, ℕ, List, Bool, Option, Some, Result, Ok, Err}
 use Rattle.std.specs.Prelude.{IfOk}
 use Rattle.dcm_files.specs.Folders.{FoldersDo}
 use Rattle.dcm_files.specs.declared.folders.Found.{Found}
@@ -11,7 +11,7 @@ use Rattle.dcm_trees.specs.Beginning as spec
 use Rattle.dcm_trees.specs.Beginning.{Looks, Numbers, Climbed, Climbs, NumbersFolder, MakesOutput, Compares, MakesApart, HasOutput, Begins}
 use Rattle.dcm_tree_laws.specs.Course.{IsNumberAt}
 use Rattle.dcm_tree_laws.specs.FileSystem.{FileSystem, Tree, Host}
-use Rattle.dcm_tree_laws.proofs.Beginnings.{numbers, climbs, is_there, numbers_folder, compares, checks_part, checks_use}
+use Rattle.dcm_tree_laws.proofs.Beginnings.{numbers, numbers_folder, compares, checks_part, checks_use}
 use Rattle.dcm_tree_laws.proofs.Looking.{same_ok}
 use Rattle.dcm_tree_laws.proofs.Quiet.{Quiet}
 
@@ -35,7 +35,7 @@ module _ {I O F : Type 0} (h : Host I O) (d : FoldersDo FileSystem O F) (quiet :
       record { found = found; is = sym (finds before path other after call) ∙ same_ok (Ok other) (Some found) other (sym is) refl; device_is = refl; number_is = refl }
   looked_at path before found after (spec.not_looked e t call is) = absurd (cc)
 
-  number_at : (path : List ℕ) (before : FileSystem) (number : FolderNumber) (after : FileSystem) → Numbers d path before (Ok number) after → IsNumberAt h before.now path number
+  pub number_at : (path : List ℕ) (before : FileSystem) (number : FolderNumber) (after : FileSystem) → Numbers d path before (Ok number) after → IsNumberAt h before.now path number
   number_at path before number after (spec.numbered found l is) = by_number h path before.now (spec.number_of found) number (Ok number) refl is (looked_at path before found after l)
   number_at path before number after (spec.nothing l is) = absurd (cc)
   number_at path before number after (spec.not_seen refusal l is) = absurd (cc)
@@ -44,7 +44,7 @@ module _ {I O F : Type 0} (h : Host I O) (d : FoldersDo FileSystem O F) (quiet :
   climbed_at path other before at first last has_other after (spec.itself n short a l o) = number_at path before first after n
   climbed_at path other before at first last has_other after (spec.and_above from below had_other mid more short n apart a o) = climbed_at path other before from first below had_other mid more
 
-  climbs_at : (path : List ℕ) (other : FolderNumber) (before : FileSystem) (r : Result _ Refusal) (after : FileSystem) → Climbs d path other before r after → IfOk r (λ way. IsNumberAt h before.now path way.first)
+  pub climbs_at : (path : List ℕ) (other : FolderNumber) (before : FileSystem) (r : Result _ Refusal) (after : FileSystem) → Climbs d path other before r after → IfOk r (λ way. IsNumberAt h before.now path way.first)
   climbs_at path other before r after (spec.not_begun refusal n is) = if_not _ r refusal is
   climbs_at path other before r after (spec.too_long first n short is) = if_not _ r _ is
   climbs_at path other before r after (spec.to_the_top at first last again has_other mid c short n same is) = if_so _ r _ is (climbed_at path other before at first last has_other mid c)

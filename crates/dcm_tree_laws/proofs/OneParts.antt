@@ -1,6 +1,6 @@
 -- Names of one part, and the paths of what is below a folder.
-use Rattle.std.proofs.Common.{◌≡◌, ◌∙◌, refl, sym, ap, subst, inl, inr, ◌⊎◌, ℕ, zero, suc, ◌+◌, ◌<◌, ◌≤◌, List, [], ◌∷◌, ◌++◌, length, take, drop, Bool, true, false, ◌&&◌, arith, append_assoc, length-append}
-use Rattle.std.specs.Prelude.{◌≢◌, ◌||◌, ◌==◌, codes, not, nat_lt, if◌then◌else◌}
+use Rattle.std.proofs.Common.{◌≡◌, ◌∙◌, refl, sym, ap, subst, inl, inr, ◌⊎◌, ℕ, suc, ◌+◌, ◌<◌, ◌≤◌, List, [], ◌∷◌, ◌++◌, length, take, drop, Bool, true, false, ◌&&◌, arith, append_assoc, length-append}
+use Rattle.std.specs.Prelude.{◌||◌, ◌==◌, codes, not, nat_lt, if◌then◌else◌}
 use Rattle.std.specs.Str.{IsUtf8}
 use Rattle.std.proofs.lemmas.Bool.{eqb-true, le-ltb}
 use Rattle.std.proofs.lemmas.List.{append_cancel_left, take_all, length-take}
@@ -9,7 +9,6 @@ use Rattle.std.proofs.Math.Seq.{drop-append_seam, take-append_seam, get_or-appen
 use Rattle.dcm_names.specs.Names.{NAME_LIMIT}
 use Rattle.dcm_walk.specs.Folder.{IsFit, named_at}
 use Rattle.dcm_walk.specs.Names.{PATH_LIMIT, below, is_slash, begins_part, goes_below, leads_below, is_part_file}
-use Rattle.dcm_walk.specs.Visits.{Named}
 use Rattle.dcm_tree_laws.specs.Visited.{IsOnePart, depth}
 use Rattle.dcm_tree_laws.proofs.Below.{leads_folder}
 

@@ -1,5 +1,5 @@
 -- A walk of a folder that was stopped was stopped by the last name that was visited.
-use Rattle.std.proofs.Common.{◌≡◌, ◌∙◌, refl, sym, ap, ℕ, zero, suc, List, Bool, true, false, Option, Some, None, Result, Ok, Err}
+use Rattle.std.proofs.Common.{◌≡◌, ◌∙◌, refl, sym, ap, ℕ, zero, suc, List, Some, None, Result, Ok, Err}
 use Rattle.dcm_devices.specs.Writing.{Writer}
 use Rattle.dcm_files.specs.Folders.{FoldersDo}
 use Rattle.dcm_files.specs.declared.folders.Found.{Found}
@@ -11,7 +11,6 @@ use Rattle.dcm_walk.specs.declared.folder.FolderNumber.{FolderNumber}
 use Rattle.dcm_walk.specs.declared.folder.Walk.{Walk}
 use Rattle.dcm_walk.specs.declared.visitor.Stopped.{Stopped}
 use Rattle.dcm_walk.specs.declared.visitor.What.{What}
-use Rattle.dcm_walk.specs.declared.visitor.What.TheVariants as whats
 use Rattle.dcm_trees.specs.declared.progress.Stop.{Stop}
 use Rattle.dcm_trees.specs.declared.progress.Work.{Work}
 use Rattle.dcm_trees.specs.declared.progress.Shared.{Shared}

@@ -1,14 +1,13 @@
 -- A run over a folder as a whole visits each file below it, where listing a folder gives the names in it.
-use Rattle.std.proofs.Common.{◌≡◌, ◌∙◌, refl, sym, ap, subst, ℕ, List, Bool, true, false, Option, Some, None, Result, Ok, Err, length}
+use Rattle.std.proofs.Common.{◌≡◌, sym, subst, ℕ, List, Bool, true, false, Some, None, Ok, length}
 use Rattle.std.specs.Prelude.{◌≢◌, codes, nat_le, if◌then◌else◌}
 use Rattle.dcm_devices.specs.Writing.{Writer}
 use Rattle.dcm_files.specs.Folders.{FoldersDo}
 use Rattle.dcm_walk.specs.declared.folder.FolderNumber.{FolderNumber}
 use Rattle.dcm_walk.specs.Names.{PATH_LIMIT, below}
-use Rattle.dcm_tree_words.specs.Trees.{Source, folder, list}
+use Rattle.dcm_tree_words.specs.Trees.{folder, list}
 use Rattle.dcm_cli.specs.Calls.{Reader}
 use Rattle.dcm_trees.specs.declared.run.TreeRun.{TreeRun}
-use Rattle.dcm_trees.specs.Place.{path_in}
 use Rattle.dcm_trees.specs.Tree as spec
 use Rattle.dcm_trees.specs.World.{World}
 use Rattle.dcm_trees.specs.Tree.{OpensFolder, OpensTree, VisitsAll}
@@ -18,11 +17,11 @@ use Rattle.dcm_tree_laws.specs.Course.{ComesTo}
 use Rattle.dcm_tree_laws.specs.FileSystem.{FileSystem, Tree, Host, begins, at_path}
 use Rattle.dcm_tree_laws.specs.OneRow.{FolderHasRows}
 use Rattle.dcm_tree_laws.specs.Rows.{Visit}
-use Rattle.dcm_tree_laws.specs.Visited.{IsIn, GivesAll, telling, listing, over_telling, over_listing, AllVisited, AllTold, NamesItself, HasVisited, refused, no_header, visited, FilesOfRunAreVisited, FilesOfRunAreTold}
+use Rattle.dcm_tree_laws.specs.Visited.{GivesAll, telling, listing, over_telling, over_listing, AllVisited, AllTold, NamesItself, HasVisited, refused, no_header, visited, FilesOfRunAreVisited, FilesOfRunAreTold}
 use Rattle.dcm_tree_laws.proofs.AllVisited.{telling_quiet, listing_quiet, files_are_visited, files_are_told}
 use Rattle.dcm_tree_laws.proofs.CourseBy.{FoldersOver, inputs_over, each}
 
-telling_over : {I O F : Type 0} (h : Host I O) (gives : F → List (List ℕ)) → FoldersOver h (telling h gives)
+pub telling_over : {I O F : Type 0} (h : Host I O) (gives : F → List (List ℕ)) → FoldersOver h (telling h gives)
 telling_over h gives = record {
   quiet = telling_quiet h gives;
   finds = λ before path links found after call. call.0;
@@ -44,7 +43,7 @@ some_same a b e = cc
 some_none : {A : Type 0} (a : A) → Some a ≡ None → ⊥
 some_none a e = absurd (cc)
 
-own_path : (t : Bool) (path own : List ℕ) → (if t then Some path else None) ≡ Some own → path ≡ own
+pub own_path : (t : Bool) (path own : List ℕ) → (if t then Some path else None) ≡ Some own → path ≡ own
 own_path true path own e = some_same path own e
 own_path false path own e = absurd (cc)
 
@@ -76,10 +75,10 @@ gives_tree h gives d so path before after opened itself (spec.too_long is o) = g
 
 -- ---- the run
 
-same_path : (a b : List ℕ) → folder a ≡ folder b → a ≡ b
+pub same_path : (a b : List ℕ) → folder a ≡ folder b → a ≡ b
 same_path a b e = cc
 
-folder_list : (a b : List ℕ) → folder a ≡ list b → ⊥
+pub folder_list : (a b : List ℕ) → folder a ≡ list b → ⊥
 folder_list a b e = absurd (cc)
 
 -- something is so of the visits of a run that was begun

@@ -24,3 +24,5 @@ pub mod Kept
 pub mod Halves
 pub mod Course
 pub mod Visited
+pub mod Apart
+pub mod Lines

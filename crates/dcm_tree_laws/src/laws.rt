@@ -2,6 +2,7 @@
 ghost use Rattle.dcm_trees.specs.World.{world};
 ghost use Rattle.dcm_tree_laws.specs.Again.{AgainIsStill, AgainIsStillOfList, ThereIsLeft};
 ghost use Rattle.dcm_tree_laws.specs.Again.{MadeIsThere, MadeIsThereOfList};
+ghost use Rattle.dcm_tree_laws.specs.Apart.{OutputsBeginEmpty, OutputsLieApart};
 ghost use Rattle.dcm_tree_laws.specs.Behind.{RowsAreToldBehind, RowsAreToldBehindAs};
 ghost use Rattle.dcm_tree_laws.specs.Copied.{CopiesAreThere, CopiesAreThereOfList};
 ghost use Rattle.dcm_tree_laws.specs.Copied.{SecondIsAsItWas, SecondIsAsItWasOfList};
@@ -15,6 +16,7 @@ ghost use Rattle.dcm_tree_laws.specs.Kept.{SecondIsKept, SecondIsKeptOfList, Sta
 ghost use Rattle.dcm_tree_laws.specs.Halves.{NeverHalf, NeverHalfByWords, NeverHalfOfBytes};
 ghost use Rattle.dcm_tree_laws.specs.Laws.{OthersStay, OthersStayByWords};
 ghost use Rattle.dcm_tree_laws.specs.OneRow.{OneRow, OneRowOfList, OneRowOfRun};
+ghost use Rattle.dcm_tree_laws.specs.Lines.{LinesAreVisited};
 ghost use Rattle.dcm_tree_laws.specs.Outputs.{WrittenIsThere, WrittenIsThereOfList};
 ghost use Rattle.dcm_tree_laws.specs.Part.{NoPartAfterRun, NoPartLeft, NoPartLeftByList};
 ghost use Rattle.dcm_tree_laws.specs.Shares.{ManifestOfShare, OneOutput, OneShare, RowsOfRuns};
@@ -68,6 +70,17 @@ pub fn runs_begin_so<I: DeviceIn, O: DeviceOut, W: DeviceOut, E: DeviceOut, F>()
     ensures working { WorkingRunsBeginSo F I.DeviceIn O.DeviceOut W.DeviceOut E.DeviceOut }
 {}
 
+/// The folder of the outputs lies apart from the folder that a run is over. Where names are visited, neither of the two
+/// was in the other one when the run began: on the way up from each, by the `..` in each folder, to the one that is in
+/// itself, none has the number of the other one. Where nothing was at the path of the outputs, it is the folder that
+/// was to hold theirs that was not in the one that is read. So it is whatever calls fail. And where a run goes on with
+/// nothing, the folder of the outputs is empty before the first name. That is said where an open folder gives each name
+/// that was in it, and the `.` in a folder is this folder.
+pub fn outputs_lie_apart<I: DeviceIn, O: DeviceOut, W: DeviceOut, E: DeviceOut, F>()
+    ensures run { OutputsLieApart F I.DeviceIn O.DeviceOut W.DeviceOut E.DeviceOut }
+    ensures new { OutputsBeginEmpty F I.DeviceIn O.DeviceOut W.DeviceOut E.DeviceOut }
+{}
+
 /// The manifest of a tree has one row for each name. These are the names of a run's share that it visits, in their
 /// order. So it is over any system, where the run does not end before its last name. In the manifest of a run as a whole
 /// the first row is before them, where it is wanted. A run that visits no names for want of that row, or since it is not
@@ -92,6 +105,14 @@ pub fn files_are_visited<I: DeviceIn, O: DeviceOut, W: DeviceOut, E: DeviceOut, 
     ensures told { FilesAreTold F I.DeviceIn O.DeviceOut W.DeviceOut E.DeviceOut }
     ensures run { FilesOfRunAreVisited F I.DeviceIn O.DeviceOut W.DeviceOut E.DeviceOut }
     ensures run_told { FilesOfRunAreTold F I.DeviceIn O.DeviceOut W.DeviceOut E.DeviceOut }
+{}
+
+/// A run over a list visits each line of it once. The visits are by the names of the lines that have bytes, in their
+/// order, the last one also where no newline ends it. Where the list can be read no further, they are those of the
+/// lines that had ended by then. So it is where readers give what files hold, and the run does not end before its last
+/// name.
+pub fn lines_are_visited<I: DeviceIn, O: DeviceOut, W: DeviceOut, E: DeviceOut, F>()
+    ensures list { LinesAreVisited F I.DeviceIn O.DeviceOut W.DeviceOut E.DeviceOut }
 {}
 
 /// A row that says that an output was written is right. At the end of a run the file is at its path in the folder of
