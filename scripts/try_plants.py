@@ -38,9 +38,6 @@ BEGIN, END = "<!-- plants: written by scripts/try_plants.py -->", "<!-- end of p
 ROW = re.compile(r"(?P<kind>[\w-]+) +(?P<file>src/[\w/]+\.rt):\d+ (?P<path>.*?): \{ ?(?P<body>.*?) ?\}(?:  \((?P<why>.*)\))?$")
 AT_A_LIMIT = "the tactics met a limit"
 
-# In place of a checksum, where the two kinds of what was not judged were not told apart.
-BEFORE = "-"
-
 # How many bodies are planted at most, and for how many minutes: more than any crate has, or takes.
 MOST, MINUTES = "3000", "120"
 
@@ -129,7 +126,7 @@ def check() -> int:
     rows = record()
     changed = [name for name in rows if rows[name][0] != checksum(name)]
     for name in changed:
-        print(f"{name}: {'what was not judged is not told apart' if rows[name][0] == BEFORE else 'changed since bodies were planted in it'}")
+        print(f"{name}: changed since bodies were planted in it")
     return 1 if changed else 0
 
 
@@ -138,7 +135,7 @@ def table() -> int:
     lines = ["| Crate | Day | Refused | Open at a limit | Functions without more | What proves, and is right |", "|---|---|---|---|---|---|"]
     for name, row in rows.items():
         _, day, refused, at_a_limit, no_more, *right = row
-        changed = ", changed since" if row[0] not in (BEFORE, checksum(name)) else ""
+        changed = ", changed since" if row[0] != checksum(name) else ""
         lines.append(f"| {name} | {day}{changed} | {refused} | {at_a_limit} | {no_more} | {' '.join(right)} |")
     try_edits.write_table(BEGIN, lines, END)
     return 0
