@@ -102,7 +102,7 @@ _dcmtools_replaced() {
 _dcmtools_tools='dcmdump dcmconv dump2dcm dcmodify dcmdeid dcm2csv'
 
 # The words that are answered with usage or the version, as the first word or as the only word after a tool's name.
-_dcmtools_answered='help version --help --version'
+_dcmtools_answered='help version -h --help --version'
 
 _dcmtools() {
     local current=${COMP_WORDS[COMP_CWORD]} switches values=$_dcmtools_values sequences=$_dcmtools_sequences
@@ -116,11 +116,11 @@ _dcmtools() {
         return
     fi
     case ${COMP_WORDS[1]} in
-        dcmdump) switches='-L +L +u8 +fo -f -ti -te -tb -dict +dict +F' ;;
-        dcmconv) switches='+t= +ti +te +tb -e +fo -dict +dict +r +c +part +nh +v' ;;
-        dump2dcm) switches='+l -e' ;;
-        dcmodify) switches='-i -m -e -ma -ea -ep -dict +dict +r +c +part +nh +v' ;;
-        dcmdeid) switches='+ru +rd +ri +rp +rl +rm +pi +bi +k +r +c +part +nh +v +kn' ;;
+        dcmdump) switches='-L +L +u8 +P +p -p +fo -f -ti -te -tb -dict +dict +F' ;;
+        dcmconv) switches='+t= +ti +te +tb -e +fo -dict +dict +ow +r +c +part +nh +v' ;;
+        dump2dcm) switches='+l -e +ow' ;;
+        dcmodify) switches='-i -m -e -ma -ea -ep -dict +dict +ow +r +c +part +nh +v' ;;
+        dcmdeid) switches='+ru +rd +ri +rp +rl +rm +pi +bi +k +ow +r +c +part +nh +v +kn' ;;
         dcm2csv) switches='-k +nh +by +u8' ;;
         *) return ;;
     esac
@@ -132,6 +132,7 @@ _dcmtools() {
         dcmdeid+k) _dcmtools_files "$current"; return ;;
         dcmdeid+rm) _dcmtools_words 'key' "$current"; return ;;
         dcm2csv-k) _dcmtools_words "$(_dcmtools_standard vc "$values")" "$current"; return ;;
+        dcmdump+P) _dcmtools_words "$(_dcmtools_standard vcs "$values $sequences")" "$current"; return ;;
         dcmconv+part | dcmodify+part | dcmdeid+part) return ;;
         dcmdump@ | dcm2csv@ | dcmconv@ | dcmodify@ | dcmdeid@) current=@$current ;; # a word is cut at `@`, and what is offered replaces both parts
         dcmodify-ea) _dcmtools_words "$values $sequences" "$current"; return ;;

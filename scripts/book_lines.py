@@ -16,6 +16,10 @@ from functools import lru_cache
 from pathlib import Path
 from typing import NamedTuple
 
+sys.dont_write_bytecode = True
+
+from made_pages import write_or_check
+
 ROOT = Path(__file__).resolve().parent.parent
 PAGE = ROOT / "docs/auditors/DEFINITIONS.md"
 BEGIN = "<!-- lines: written by scripts/book_lines.py -->"
@@ -23,7 +27,7 @@ END = "<!-- end of lines -->"
 
 # the jobs that the words of a tool mean, by their names in dcm_words/specs/Words.antt; dcm2csv has none
 JOBS = {
-    "dcmdump": {"dump", "dump_decoded"},
+    "dcmdump": {"dump", "dump_decoded", "dump_named"},
     "dcmconv": {"convert"},
     "dump2dcm": {"build"},
     "dcmodify": {"modify"},
@@ -308,12 +312,6 @@ def sound() -> str:
     return f"For sound files alone, as is said below: {', '.join(f'{tool} {count:,}' for tool, count in lines.items())} lines."
 
 
-def with_table(page: str) -> str:
-    before, _, rest = page.partition(BEGIN)
-    after = rest.partition(END)[2]
-    return f"{before}{BEGIN}\n\n{table()}\n\n{sound()}\n\n{END}{after}"
-
-
 def unnamed_files(page: str) -> list:
     """The files that a promise is made of and the table of DEFINITIONS lacks."""
     named = page.split("## The files that are to be believed")[1].split("### For one tool alone")[0]
@@ -332,15 +330,8 @@ def main() -> int:
                 print(f"{sum(count for key, count in lines.items() if key[0] == file):5} {file}")
         print("parts:", [sum(part.values()) for part in parts], "definitions:", len(lines))
         return 0
-    page = PAGE.read_text()
-    made = with_table(page)
-    wrong = [f"docs/auditors/DEFINITIONS.md does not name {file}" for file in unnamed_files(page)]
-    if "--check" not in sys.argv:
-        PAGE.write_text(made)
-    elif made != page:
-        wrong.append("docs/auditors/DEFINITIONS.md: the table of lines is another one: run scripts/book_lines.py")
-    print("\n".join(wrong + [f"{len(wrong)} wrong"]))
-    return 1 if wrong else 0
+    wrong = [f"docs/auditors/DEFINITIONS.md does not name {file}" for file in unnamed_files(PAGE.read_text())]
+    return write_or_check(PAGE, BEGIN, END, f"{table()}\n\n{sound()}", wrong)
 
 
 if __name__ == "__main__":

@@ -23,9 +23,13 @@ ROOT = Path(__file__).resolve().parent.parent
 TEXTS = {"dcmdump": "DUMP", "dcmconv": "CONVERT", "dump2dcm": "BUILD", "dcmodify": "MODIFY", "dcmdeid": "DEIDENTIFY",
          "dcm2csv": "TABLE"}
 OF_TREES = ("dcmconv", "dcmodify", "dcmdeid")
+# Those that write an OUTPUT.
+WITH_OUTPUT = ("dcmconv", "dump2dcm", "dcmodify", "dcmdeid")
 MANUAL = "man/dcmtools.1"
+# scripts/make_laws.py makes this page of the comments of laws.
+GENERATED = "docs/auditors/LAWS.md"
 
-MOST_WORDS = 29_000
+MOST_WORDS = 28_500
 LONG, LONGEST, MOST_LONG = 30, 45, 25
 
 
@@ -35,7 +39,8 @@ def read(path: str) -> str:
 
 
 def pages() -> list:
-    docs = sorted(str(path.relative_to(ROOT)) for path in ROOT.glob("docs/*/*.md"))
+    docs = sorted(str(path.relative_to(ROOT)) for path in ROOT.glob("docs/**/*.md"))
+    docs.remove(GENERATED)
     return ["README.md", "CHANGELOG.md", "CONTRIBUTING.md", *docs, MANUAL]
 
 
@@ -208,22 +213,16 @@ def wrong_facts() -> list:
 
 
 def wrong_crates() -> list:
-    """The crates of ARCHITECTURE, and the edits and crates of GATE, that are others than those of the tree."""
+    """The crates of ARCHITECTURE, and the edits of harms.tsv, that are others than those of the tree."""
     crates = {line.split(":")[0].split()[0] for line in read("crates.txt").splitlines() if line.strip()}
     table = read("docs/engineers/ARCHITECTURE.md").split("## The crates")[1].split("\n## ")[0]
     named = {name for row in re.findall(r"^\| ([a-z]\w+(?:, \w+)*) \|", table, re.M) for name in row.split(", ")}
     wrong = [f"ARCHITECTURE and crates.txt differ in {sorted(named ^ crates)}"] if named != crates else []
-    gate = read("docs/engineers/GATE.md")
-    for name, inside, further in re.findall(r"^\| (\w+) \| (\d+) \| (\d+) \|", gate, re.M):
-        found = tuple(len(list(ROOT.glob(f"{folder}/*.edit"))) for folder in (f"crates/{name}/must-fail", f"scripts/edits/{name}"))
-        wrong += [f"GATE: {name} has {found[0]} and {found[1]} edits"] if found != (int(inside), int(further)) else []
-    rows = {name for name, _, _ in re.findall(r"^\| (\w+) \| (\d+) \| (\d+) \|", gate, re.M)}
-    others = {path.parent.name for path in ROOT.glob("crates/*/must-fail")} - rows
-    wrong += [f"GATE lacks the edits of {sorted(others)}"] if others else []
-    for crate, edits in re.findall(r"(dcm_\w+) ((?:`\w+`(?:, )?)+)", gate.split("## Edits")[1].split("These public")[0]):
-        for edit in re.findall(r"`(\w+)`", edits):
-            if not list(ROOT.glob(f"crates/{crate}/must-fail/{edit}.edit")) + list(ROOT.glob(f"scripts/edits/{crate}/{edit}.edit")):
-                wrong.append(f"GATE: {crate} has no edit {edit}")
+    for line in read("scripts/edits/harms.tsv").splitlines()[1:]:
+        for edit in line.split("\t")[1].split():
+            crate, name = edit.split("/")
+            if not list(ROOT.glob(f"crates/{crate}/must-fail/{name}.edit")) + list(ROOT.glob(f"scripts/edits/{crate}/{name}.edit")):
+                wrong.append(f"scripts/edits/harms.tsv: {crate} has no edit {name}")
     return wrong
 
 
@@ -261,13 +260,13 @@ def wrong_causes() -> list:
 # What a newcomer has to be told, and where: a page, a title of the manual page, a text of the program, or a script.
 WRAPPERS = ("dcm2csv", "dcmconv", "dcmdeid", "dcmdump", "dcmodify", "dump2dcm")
 TOLD = [
-    ("that dcmodify overwrites its last word", r"overwrit\w+", ("README.md", "Edits of dcmodify", "MODIFY")),
+    ("that an OUTPUT that is there stays", r"\bstays\b", ("README.md", "An output that is there", "MODIFY")),
     ("what edits do not see without +dict", r"names may be left", ("README.md", "Edits of dcmodify", "MODIFY")),
     ("where the causes of lines are", r"likeliest cause", ("DIAGNOSTICS",)),
     ("where the causes of lines are", r"#what-to-do-at-a-line", ("README.md",)),
     ("which names of files it takes", r"UTF-8|any\s+(?:#\s+)?bytes", tuple(f"scripts/{name}" for name in WRAPPERS)),
-    ("how to go on after it was cut off", r"\*\*Cut off\*\*", ("docs/users/COOKBOOK.md",)),
-    ("that a cut behind the last column is not named", r"cut behind its last column", ("docs/users/COOKBOOK.md",)),
+    ("how to go on after it was cut off", r"cuts a block off", ("docs/users/COOKBOOK.md",)),
+    ("that a cut behind the last column is not named", r"cut after its last column", ("docs/users/COOKBOOK.md",)),
 ]
 
 
@@ -307,6 +306,8 @@ def manual_options(tool: str) -> set:
         sections.append(page.split(".Ss The dictionaries")[1].split(".Ss")[0])
     if tool in OF_TREES:
         sections.append(page.split(".Ss Trees of files")[1].split(".Ss")[0])
+    if tool in WITH_OUTPUT:
+        sections.append(page.split(".Ss An output that is there")[1].split(".Ss")[0])
     items = re.findall(r"^\.It (Fl|Cm) (\S+)", "\n".join(sections), re.M)
     return {("-" if kind == "Fl" else "") + word for kind, word in items if word != "@"}
 
@@ -317,6 +318,7 @@ def profile_options(tool: str) -> set:
     sections = [re.split(r"\n##? ", read("docs/users/PROFILE.md").split(f"\n# {title}\n")[1])[0] for title in titles]
     cells = re.findall(r"^\| (`[-+][^|]*) \|", "\n".join(sections), re.M)
     found = {span.split()[0] for cell in cells for span in re.findall(r"`([^`]*)`", cell)}
+    found |= {"+ow"} if tool in WITH_OUTPUT else set()
     return found | ({"-dict", "+dict"} if tool == "dcmodify" else set())
 
 
@@ -330,6 +332,7 @@ def zsh_options(tool: str) -> set:
     case = re.search(rf"^    {tool}\)\n(.*?);;\n    (?=\S)", page, re.M | re.S)[1]
     found = set(re.findall(r"^\s+'([-+][^-:][^:]*):", case, re.M))
     found |= {"-dict", "+dict"} if "$dictionaries" in case else set()
+    found |= {"+ow"} if "$overwrites" in case else set()
     return found | (set(re.findall(r"^\s+'(\+\w+):", re.search(r"^  trees=\(\n(.*?)^  \)", page, re.M | re.S)[1], re.M)) if "$trees" in case else set())
 
 

@@ -74,3 +74,7 @@ def file_of(uid, data_set, preamble=bytes(128)):
 
 def after_prefix(content):
     return bytes(128) + b"DICM" + content
+
+
+# what dcmdeid puts last in the meta group: the class and the version name of its own implementation
+OWN = leaf(0x00020012, "UI", b"2.25.313428391727201999114611669686557106709") + leaf(0x00020013, "SH", b"DCMTOOLS")

@@ -3,15 +3,19 @@
 
     scripts/make_actions.py > crates/dcm_deid/src/table.rt
     scripts/make_actions.py --kept-numbers > crates/dcm_deid/src/kept_numbers.rt
+    scripts/make_actions.py --check        ends with 1 where one of the two is another one
 
 Rows of ranges (curves and overlays, 50xx and 60xx) are left out: the data dictionary has no element of theirs, so they
 are removed as what is unknown. The data file says where each row is from.
 """
+import contextlib
+import io
 import re
 import sys
 from pathlib import Path
 
 DATA = Path(__file__).parent.parent / "data/deidentify.tsv"
+SOURCES = Path(__file__).parent.parent / "crates/dcm_deid/src"
 FATES = {"remove": "Remove", "empty": "Empty", "replace": "Replace", "uid": "Anew(NewValue::Uid)", "keep": "Keep"}
 OPTIONS = {"u": "Uids", "d": "Device", "i": "Institution", "p": "Patient", "l": "Dates"}
 HEADER = """//! What becomes of the elements of PS3.15 table E.1-1, edition 2021b, and of those that this project adds.
@@ -136,9 +140,26 @@ def print_kept_numbers(table):
         print("];")
 
 
+def text_of(print_it, table):
+    """What a function prints of the table."""
+    with contextlib.redirect_stdout(io.StringIO()) as text:
+        print_it(table)
+    return text.getvalue()
+
+
+def check(table):
+    """Ends with 1 where a file is not what this script writes."""
+    for name, print_it in (("table.rt", print_table), ("kept_numbers.rt", print_kept_numbers)):
+        if (SOURCES / name).read_text() != text_of(print_it, table):
+            sys.exit(f"{SOURCES / name} is not what this script writes")
+    print("the rows are those of data/deidentify.tsv")
+
+
 def main():
     table = sorted(rows())
-    if sys.argv[1:] == ["--kept-numbers"]:
+    if sys.argv[1:] == ["--check"]:
+        check(table)
+    elif sys.argv[1:] == ["--kept-numbers"]:
         print_kept_numbers(table)
     else:
         print_table(table)

@@ -1,18 +1,23 @@
 #!/usr/bin/env python3
-"""Writes the table of laws into docs/auditors/PROVED.md: each law by its name, with the first sentence of its comment.
+"""Writes the table of laws into docs/auditors/LAWS.md: each law by its name, with the first sentence of its comment.
 
     scripts/make_laws.py            writes the table
     scripts/make_laws.py --check    ends with 1 where the page has another one, or a line is too long
 
 A law is a public function of a crate's src/laws.rt, whose contract is what is proved. Those of ON_THE_WAY carry what the contracts of
-functions say up to the definitions, and are counted without a line. Those of IN_THE_THEOREM are named in the page's theorem of a run.
+functions say up to the definitions, and are counted without a line. Those of IN_THE_THEOREM are named in the promises of PROVED.
 """
 import re
 import sys
 from pathlib import Path
 
+sys.dont_write_bytecode = True
+
+from made_pages import write_or_check
+
 ROOT = Path(__file__).resolve().parent.parent
-PAGE = ROOT / "docs/auditors/PROVED.md"
+PAGE = ROOT / "docs/auditors/LAWS.md"
+PROVED = ROOT / "docs/auditors/PROVED.md"
 BEGIN = "<!-- laws: written by scripts/make_laws.py -->"
 END = "<!-- end of laws -->"
 MOST_WORDS = 30
@@ -92,7 +97,7 @@ def faults() -> list:
         laws = dict(laws_of(crate))
         way = on_the_way(crate)
         wrong += [f"{crate} has no law {name}" for name in sorted((way | in_the_theorem(crate)) - set(laws))]
-        wrong += [f"docs/auditors/PROVED.md does not name {name}" for name in sorted(in_the_theorem(crate)) if f"`{name}`" not in PAGE.read_text()]
+        wrong += [f"docs/auditors/PROVED.md does not name {name}" for name in sorted(in_the_theorem(crate)) if f"`{name}`" not in PROVED.read_text()]
         for name, sentences in laws.items():
             count = len(sentences[0].split())
             if name not in way and count > MOST_WORDS:
@@ -100,21 +105,5 @@ def faults() -> list:
     return wrong
 
 
-def with_table(page: str) -> str:
-    before, _, rest = page.partition(BEGIN)
-    return f"{before}{BEGIN}\n\n{table()}\n\n{END}{rest.partition(END)[2]}"
-
-
-def main() -> int:
-    page, wrong = PAGE.read_text(), faults()
-    made = with_table(page)
-    if "--check" in sys.argv:
-        wrong += ["docs/auditors/PROVED.md: the table of laws is another one: run scripts/make_laws.py"] if made != page else []
-    else:
-        PAGE.write_text(made)
-    print("\n".join(wrong + [f"{len(wrong)} wrong"]))
-    return 1 if wrong else 0
-
-
 if __name__ == "__main__":
-    sys.exit(main())
+    sys.exit(write_or_check(PAGE, BEGIN, END, table(), faults()))

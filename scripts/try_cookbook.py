@@ -443,7 +443,7 @@ def identity_of_tree(run):
         if word == "written":
             content = without_identity(run, file.content, key)
             output = b"/".join(uid_in(content, tag) for tag in (STUDY, SERIES, INSTANCE)) + b".dcm"
-            outputs[b"deidentified/" + output] = (content, file.mode)
+            outputs[b"deidentified/" + output] = (content, file.mode & 0o700)
         due.append((name.decode("utf-8", "backslashreplace"), output.decode(), word))
     table = run.files.get(b"deidentified.csv", (b"", 0))[0]
     rows = sorted(tuple(row) for row in csv.reader(io.StringIO(table.decode("utf-8"), newline="")))
@@ -550,7 +550,7 @@ BLOCKS = [
     Block("    dcmtools dcmodify +dict -m 'DoseReferenceSequence", corrected_plan, replaces=b"plan.dcm"),
     Block("dcmtools dcmodify +dict -m 'PatientName=Doe^Jane' +r", corrected_names, folder=b"fixed"),
     Block("    name=$(printf", latin_name, needs=("iconv",), replaces=b"scan.dcm"),
-    Block("    (umask 077; set -C; > deidentified.csv)", identity_of_tree, folder=b"deidentified"),
+    Block("    > deidentified.csv && dcmtools dcmdeid", identity_of_tree, folder=b"deidentified"),
     Block("    find deidentified/ -type f", identity_left, with_outputs, sound=with_sound_outputs),
     Block("    dcmtools dcmdeid +k site.key scan.dcm - |", identity_replaced),
     Block("dcmtools dcmdeid +k site.key +pi +rm key", moved_by_key, with_key, sound=with_key),

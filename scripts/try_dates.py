@@ -16,7 +16,7 @@ import tempfile
 import time
 from pathlib import Path
 
-from elements import LITTLE, even_leaf, file_of, leaf, open_item, open_sequence, tag_bytes
+from elements import LITTLE, OWN, even_leaf, file_of, leaf, open_item, open_sequence, tag_bytes
 
 HEAD = file_of(LITTLE, b"")
 IMAGES, STUDY_DATE, ID = 0x00081140, 0x00080020, 0x00100020
@@ -34,7 +34,7 @@ def moved(binary: str, days: int, values: list) -> bytes:
     run = subprocess.run([binary, "dcmdeid", "+rm", str(days), "-", "-"], input=HEAD + sequence_of(values), capture_output=True)
     if run.returncode != 0:
         sys.exit(f"status {run.returncode}: {run.stderr!r}")
-    return run.stdout[len(HEAD):]
+    return run.stdout[len(HEAD) + len(OWN):]
 
 
 def text(date: datetime.date) -> bytes:

@@ -6,8 +6,8 @@
     scripts/try_edits.py NAME/EDIT ..  tries these alone; it notes nothing
     scripts/try_edits.py --applies     says in a second which edits cannot be applied
     scripts/try_edits.py --check       says in a second which crates changed since their edits were tried
-    scripts/try_edits.py --table       writes the table of the record into docs/engineers/GATE.md
-    scripts/try_edits.py --without     lists the public functions that no edit turns, and fails where the page does not name one of them
+    scripts/try_edits.py --table       prints the edits of each crate, and when they were tried
+    scripts/try_edits.py --without     lists the public functions that no edit turns, and fails where scripts/edits/without.tsv gives no reason
 
 The gate's edits of a crate are in `crates/NAME/must-fail`, all others in `scripts/edits/NAME`, in the same form. It works on a copy of
 the crates, and needs `rt`. The record is scripts/edits/tried.tsv: crate, checksum of its sources, definitions and edits (but not of
@@ -41,8 +41,7 @@ from typing import Callable, Iterable, NamedTuple
 ROOT = Path(__file__).resolve().parent.parent
 OTHERS = ROOT / "scripts/edits"
 RECORD = OTHERS / "tried.tsv"
-PAGE = ROOT / "docs/engineers/GATE.md"
-BEGIN, END = "<!-- edits: written by scripts/try_edits.py -->", "<!-- end of edits -->"
+WITHOUT = OTHERS / "without.tsv"
 
 # What a check says of a goal that is left open: in the code, or in the answer to a goal that no longer holds.
 OPEN_GOAL = re.compile(
@@ -86,8 +85,11 @@ def crates_with_edits() -> list[str]:
 
 
 def checksum(crate: str) -> str:
-    """Of what an edit of the crate may change or meet."""
-    return checksum_of(crate, ("src", "specs", "must-fail"), (OTHERS / crate,))
+    """Of what an edit of the crate may change or meet, and of its edits, whichever of the two folders they are in."""
+    sum_of = hashlib.sha256(checksum_of(crate, ("src", "specs"), ()).encode())
+    for edit in sorted(edits_of(crate), key=lambda it: it.name):
+        sum_of.update(edit.name.encode() + b"\0" + edit.read_bytes() + b"\0")
+    return sum_of.hexdigest()[:16]
 
 
 def checksum_of(crate: str, names: Iterable[str], others: Iterable[Path]) -> str:
@@ -132,13 +134,6 @@ def note_row(path: Path, head: str, crate: str, row: list[str]) -> None:
     path.write_text("\n".join(lines) + "\n")
 
 
-def write_table(begin: str, lines: list[str], end: str) -> None:
-    """Writes a table into the page, between two marks."""
-    page = PAGE.read_text()
-    before, rest = page.split(begin)
-    PAGE.write_text(before + "\n".join([begin, "", *lines, "", end]) + rest.split(end)[1])
-
-
 def record() -> dict[str, list[str]]:
     return rows_of(RECORD)
 
@@ -162,13 +157,12 @@ def check() -> int:
 
 def table() -> int:
     rows, stale = record(), changed()
-    lines = ["| Crate | In the gate | In `scripts/edits` | Refused for a goal | Tried |", "|---|---|---|---|---|"]
+    print("crate\tin the gate\tin scripts/edits\trefused for a goal\ttried")
     for name in crates_with_edits():
         in_gate = len(edits_of(name)) - len(edits_of(name, True))
         _, day, refused = rows.get(name, ["", "not noted", "-"])
         tried = f"{day}, changed since" if name in stale and name in rows else day
-        lines.append(f"| {name} | {in_gate} | {len(edits_of(name, True))} | {refused} | {tried} |")
-    write_table(BEGIN, lines, END)
+        print(name, in_gate, len(edits_of(name, True)), refused, tried, sep="\t")
     return 0
 
 
@@ -542,14 +536,13 @@ def functions_without_edit(crate: str) -> list[Function]:
 
 
 def without() -> int:
-    named = set(re.findall(r"`([\w:]+)`", PAGE.read_text()))
-    names = {word for name in named for word in (name, *name.split("::"))}
+    names = set(rows_of(WITHOUT))
     failed = 0
     for crate in crates_with_edits():
         for function in functions_without_edit(crate):
-            is_named = function.name in names and bool({function.owner or function.name, function.trait} & names)
-            failed += not is_named
             whole = f"{function.owner}::{function.name}" if function.owner else function.name
+            is_named = whole in names
+            failed += not is_named
             print(f"{'  ' if is_named else '!!'} {crate} {function.file} {whole}")
     return 1 if failed else 0
 

@@ -20,7 +20,7 @@ begin so. Needs strace (apt-get install strace) and setarch. Exits with 0 if not
   tried again.
 - Where memory is refused, the run goes as it was, or the line is `out of memory`, with status 5, and nothing is written.
 - FILE is never changed, also where OUTPUT is FILE, and no file gets the number of a standard stream.
-- A close that fails passes in silence (docs/users/PROFILE.md, "Where it is written").
+- A failing close passes in silence: the kit's std does not give the system's answer.
 - A file that was opened, or standard output, cannot be asked what it is: `cannot be opened`, status 4, nothing is written. The same
   of standard input, where OUTPUT holds bytes; else the run is as it was. An OUTPUT that cannot be asked for its size before its
   first byte is `output failed`, and keeps what it holds. A call that the system does not have (ENOSYS), or that was interrupted, may
@@ -291,6 +291,8 @@ def traced(binary, room, run, injected=()):
         paths["out"].write_bytes(OLDER)
         paths["out"].chmod(OLDER_MODE)
     words = [word.format(**paths) if word.startswith("{") else word for word in run.words]
+    if run.has_older:
+        words.insert(1, "+ow")
     strace = ["setarch", "-R", "strace", "-o", paths["log"], "-s", "0"]
     faults = [word for fault in injected for word in ("-e", f"inject={fault}")]
     shell = ["sh", "-c", f'exec "$@" {run.streams}', "sh", binary]

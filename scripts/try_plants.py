@@ -4,7 +4,7 @@
     scripts/try_plants.py NAME..           plants in these crates, which takes minutes, and notes what became of the bodies
     scripts/try_plants.py --read NAME=FILE notes what `rt plant NAME --all` printed into a file
     scripts/try_plants.py --check          says in a second which crates changed since
-    scripts/try_plants.py --table          writes the table of docs/engineers/GATE.md
+    scripts/try_plants.py --table          prints the record, and which crates changed since
 
 The record is scripts/edits/plants.tsv: crate, checksum of its sources and definitions (but not of comments), day, and how many bodies
 were refused, of how many a goal stayed open at a limit, in how many functions no more could be planted; then what proves, and why it is
@@ -32,8 +32,6 @@ import try_edits
 from try_edits import ROOT
 
 RECORD = try_edits.OTHERS / "plants.tsv"
-PAGE = try_edits.PAGE
-BEGIN, END = "<!-- plants: written by scripts/try_plants.py -->", "<!-- end of plants -->"
 
 ROW = re.compile(r"(?P<kind>[\w-]+) +(?P<file>src/[\w/]+\.rt):\d+ (?P<path>.*?): \{ ?(?P<body>.*?) ?\}(?:  \((?P<why>.*)\))?$")
 AT_A_LIMIT = "the tactics met a limit"
@@ -132,12 +130,11 @@ def check() -> int:
 
 def table() -> int:
     rows = record()
-    lines = ["| Crate | Day | Refused | Open at a limit | Functions without more | What proves, and is right |", "|---|---|---|---|---|---|"]
+    print("crate\tday\trefused\topen at a limit\tfunctions without more\twhat proves, and is right")
     for name, row in rows.items():
         _, day, refused, at_a_limit, no_more, *right = row
         changed = ", changed since" if row[0] != checksum(name) else ""
-        lines.append(f"| {name} | {day}{changed} | {refused} | {at_a_limit} | {no_more} | {' '.join(right)} |")
-    try_edits.write_table(BEGIN, lines, END)
+        print(name, day + changed, refused, at_a_limit, no_more, " ".join(right), sep="\t")
     return 0
 
 

@@ -19,7 +19,7 @@ import tempfile
 from typing import NamedTuple
 
 from elements import (
-    BIG, IMPLICIT, JPEG, LITTLE, UNDEFINED, after_prefix, file_of, group, head, item, leaf, open_item, open_sequence, padded, sequence,
+    BIG, IMPLICIT, JPEG, LITTLE, OWN, UNDEFINED, after_prefix, file_of, group, head, item, leaf, open_item, open_sequence, padded, sequence,
 )
 
 ROOT = os.path.dirname(os.path.dirname(os.path.abspath(__file__)))
@@ -56,6 +56,14 @@ def set_header(name):
 
 
 NAMES = {IMPLICIT: "LittleEndianImplicit", LITTLE: "LittleEndianExplicit", BIG: "BigEndianExplicit"}
+
+
+MARK = " (texts in UTF-8)"
+
+
+def by_characters(dump):
+    """A dump whose first line says that texts are shown as characters."""
+    return dump.replace("\n", f"{MARK}\n", 1)
 
 
 def shown(uid, lines):
@@ -107,7 +115,16 @@ WHOLE = "dcmdump +L FILE"
 
 
 def dumps(claim, uid, data_set, lines, words=DUMP):
-    return Case(claim, words, file_of(uid, data_set), shown(uid, lines))
+    dump = shown(uid, lines)
+    return Case(claim, words, file_of(uid, data_set), by_characters(dump) if "+u8" in words else dump)
+
+
+def of_unnamed_syntax(claim, uid, header):
+    """A dump of a file whose transfer syntax has no name, and stands so in the header of the data set."""
+    size = len(padded(uid.encode()))
+    meta = line(0x00020000, "UL", str(8 + size), 4, 1, "FileMetaInformationGroupLength")
+    meta += line(0x00020010, "UI", f"[{uid}]", size, 1, "TransferSyntaxUID")
+    return Case(claim, DUMP, file_of(uid.encode(), AB), f"{FILE_HEADER}{meta}\n{set_header(header)}{NAME_LINE}")
 
 
 def displays(claim, vr, value, display, count, uid=LITTLE, words=WHOLE):
@@ -144,7 +161,36 @@ def characters():
         decodes("5C in a kanji is no backslash", b"\\ISO 2022 IR 87 ", b"\x1b$B0\\\x1b(B\\a", "[\u79fb\\a]", 2, vr="LO"),
         decodes("the cut falls into no character", b"ISO_IR 192", b"a" + "\u00fc".encode() * 39 + b"a", "[a" + "\u00fc" * 30 + "...", 1, vr="LT"),
         decodes("GB18030", b"GB18030 ", b"\xcd\xf5", "[\u738b]", 1),
+        Case("of a data set alone its first line says so too", "dcmdump -f -ti +u8 FILE", leaf(NAME, "PN", b"AB", IMPLICIT), by_characters(set_header("LittleEndianImplicit") + NAME_LINE)),
         refused("V2: +u8 of dcmconv", "dcmconv +u8 FILE -", "V2 at word 2: unknown option"),
+    ]
+
+
+def named():
+    inner = item(AB)
+    deep = sequence(IMAGES, inner) + AB
+    way = "(0008,1140)."
+    whole = line(IMAGES, "SQ", "(Sequence with explicit length)", len(inner), 1, "ReferencedImageSequence")
+    whole += line(0xFFFEE000, "na", "(Item with explicit length)", len(AB), 1, "Item", 1)
+    whole += "    " + NAME_LINE + line(0xFFFEE00D, "na", "(ItemDelimitationItem for re-encoding)", 0, 0, "ItemDelimitationItem", 1)
+    whole += line(0xFFFEE0DD, "na", "(SequenceDelimitationItem for re-encod.)", 0, 0, "SequenceDelimitationItem")
+
+    def finds(claim, words, data_set, lines, **more):
+        return Case(claim, f"dcmdump {words} FILE", file_of(LITTLE, data_set), lines, **more)
+
+    return [
+        finds("a named element at any depth, without a header", "+P PatientName", deep, NAME_LINE * 2),
+        finds("by its number", "+P '(0010,0010)'", deep, NAME_LINE * 2),
+        finds("a sequence with all that is in it, and none of it again", "+P ReferencedImageSequence +P PatientName", deep, whole + NAME_LINE),
+        finds("the way before the first line", "+p +P PatientName", deep, way + NAME_LINE + NAME_LINE),
+        finds("-p takes +p back", "+p +P PatientName -p", deep, NAME_LINE * 2),
+        finds("an element of the meta group", "+P TransferSyntaxUID", AB, line(0x00020010, "UI", "=LittleEndianExplicit", 20, 1, "TransferSyntaxUID")),
+        finds("nothing is found", "+P Modality", deep, ""),
+        finds("a name in a value is none", "+P PatientID", leaf(NAME, "PN", b"(0010,0020) LO [7]"), ""),
+        refused("U2: a keyword that is none", "dcmdump +P Nothing FILE", "U2 in element 1: unknown tag"),
+        refused("U1: a number that is none", "dcmdump +P PatientName +P '(0010,001)' FILE", "U1 in element 2: bad option or path"),
+        refused("V3: +P without its word", "dcmdump FILE +P", "V3 at word 3: bad option value"),
+        refused("V12: more than 64", "dcmdump " + "+P PatientName " * 65 + "FILE", "V12: more than 64 elements"),
     ]
 
 
@@ -245,9 +291,11 @@ FILE_LIMIT = file_of(LITTLE, leaf(PIXELS, "OB", bytes(60_000)))
 
 FILES = [
     Case("a new OUTPUT has the mode of the umask", "dcmconv FILE out", WRITTEN, "644\n", before="umask 022; chmod 600 FILE", after="stat -c %a out; rm out"),
-    Case("an older OUTPUT keeps its mode", "dcmconv FILE out", WRITTEN, "640\n", before="umask 022; echo older > out; chmod 640 out", after="stat -c %a out; rm out"),
+    Case("an OUTPUT that is there stays", "dcmconv FILE out", WRITTEN, "older\n", 4, "output is there already", before="echo older > out", after="cat out; rm out"),
+    Case("an empty OUTPUT is written", "dcmconv FILE out", WRITTEN, WRITTEN, before=": > out", after="cat out; rm out"),
+    Case("with +ow an older OUTPUT keeps its mode", "dcmconv +ow FILE out", WRITTEN, "640\n", before="umask 022; echo older > out; chmod 640 out", after="stat -c %a out; rm out"),
     Case("a signal leaves what was written", "dcmconv - out < <(cat FILE; exec sleep 20) & sleep 1; kill $!; wait $!; (exit $?)", WRITTEN, "out\n", 143, before="exec 2> /dev/null", after="ls out; rm out"),
-    Case("two files in DCMTK's habit: the second becomes a copy of the first", "dcmodify -m PatientName=AB FILE out", WRITTEN, WRITTEN, before="echo another patient > out", after="cat out; rm out"),
+    Case("two files in DCMTK's habit: the second stays", "dcmodify -m PatientName=AB FILE out", WRITTEN, "another patient\n", 4, "output is there already", before="echo another patient > out", after="cat out; rm out"),
     Case("a limit of file size ends the program without a line", "dcmconv FILE out 2> out2", FILE_LIMIT, "4096\n0\n", 153, before="ulimit -f 4; exec 2> /dev/null", after="stat -c %s out out2; rm out out2"),
     Case("the same where the signal is ignored", "dcmconv FILE out", FILE_LIMIT, "4096\n", 4, "output failed", before="ulimit -f 4; trap '' XFSZ", after="stat -c %s out; rm out"),
     Case(
@@ -440,14 +488,13 @@ READING = [
         + line(0x00020000, "UL", "7", 4, 1, "FileMetaInformationGroupLength")
         + "\n" + set_header("LittleEndianExplicit") + NAME_LINE,
     ),
+    of_unnamed_syntax("a private syntax is read as explicit little endian, and shown by its UID", "1.2.3.4", "1.2.3.4"),
+    of_unnamed_syntax("a closing parenthesis of such a UID is escaped in the header", "1 (texts in UTF-8)", "1 (texts in UTF-8%29"),
     Case(
-        "a private syntax is read as explicit little endian, and shown by its UID",
-        DUMP,
-        file_of(b"1.2.3.4", AB),
-        FILE_HEADER
-        + line(0x00020000, "UL", "16", 4, 1, "FileMetaInformationGroupLength")
-        + line(0x00020010, "UI", "[1.2.3.4]", 8, 1, "TransferSyntaxUID")
-        + "\n" + set_header("1.2.3.4") + NAME_LINE,
+        "so its dump is built again",
+        'dcmdump +L FILE | "$0" dump2dcm - -',
+        file_of(b"1 (texts in UTF-8)", AB),
+        file_of(b"1 (texts in UTF-8)", AB),
     ),
     dumps(
         "implicit: the VRs of the dictionary, UL, LO and UN",
@@ -518,6 +565,7 @@ SHOWING = [
     displays("values of a text", "LO", b"a\\b\\c ", "[a\\b\\c]", 3),
     displays("LT has one value", "LT", b"a\\b ", "[a\\b]", 1),
     *characters(),
+    *named(),
     displays("UI with a name", "UI", b"1.2.840.10008.5.1.4.1.1.2\0", "=CTImageStorage", 1),
     displays("UI without a name", "UI", b"1.2.3\0", "[1.2.3]", 1),
     displays("US", "US", struct.pack("<HH", 1, 65535), "1\\65535", 2),
@@ -632,6 +680,7 @@ def in_group(claim, lines, number, at, place, text, output=b"", words=BUILD):
 
 
 NO_SYNTAX = "no usable transfer syntax"
+BY_CHARACTERS = "a dump by characters"
 
 BUILDING = [
     builds("the last line may lack its newline, and one carriage return is dropped", b"(0010,0010) PN [AB]\r", AB),
@@ -678,6 +727,10 @@ BUILDING = [
         "nested too deep",
         (head(IMAGES, "SQ", UNDEFINED) + head(0xFFFEE000, "", UNDEFINED)) * 64,
     ),
+    in_group("B10: a dump of +u8", b"\n# Dicom-Data-Set (texts in UTF-8)\n", "B10", AT_LINE + 1, 3, BY_CHARACTERS),
+    bad_line("B10: any comment, spaces and a carriage return behind it", b"(0010,0010) PN [AB]\n  #(texts in UTF-8)  \r\n", "B10", AT_LINE + 20, 3, BY_CHARACTERS, AB),
+    in_group("B1 comes before B10", b"#" + b" " * 64 + b"(texts in UTF-8)\n", "B1", AT_LINE, 2, "line too long", words="dump2dcm +l 80 FILE -"),
+    builds("other comments may hold what B10 is told of", b"# (texts in UTF-8) x\n(0010,0010) PN [AB] # (texts in UTF-8)\n", AB),
     bad_line("B9", b"(0008,1140) SQ (Sequence with\n", "B9", AT_LINE + 30, 3, "input ends too early", head(IMAGES, "SQ", UNDEFINED)),
 ]
 
@@ -811,9 +864,14 @@ def said(options):
         0x00120064, b"".join(code(*each) for each in codes))
 
 
+def named_by_dcmdeid(data_set):
+    """A file whose head is that of dcmdeid."""
+    return after_prefix(group(leaf(0x00020010, "UI", padded(LITTLE)), OWN) + data_set)
+
+
 def without_identity(options, before=b"", after=b"", dates=b"REMOVED "):
     """A file of which this is left below group 0012 and above (0028,0303)."""
-    return file_of(LITTLE, before + said(options) + leaf(DATES, "CS", dates) + after)
+    return named_by_dcmdeid(before + said(options) + leaf(DATES, "CS", dates) + after)
 
 
 def taken(claim, data_set, before=b"", after=b"", options="", dates=b"REMOVED ", before_run=":", after_run=":", marks=None):
@@ -824,6 +882,10 @@ def taken(claim, data_set, before=b"", after=b"", options="", dates=b"REMOVED ",
 
 def moved(claim, tag, vr, old, new, days):
     return taken(f"+rm: {claim}", leaf(tag, vr, old), leaf(tag, vr, new), options=f"+rm {days}", dates=b"MODIFIED")
+
+
+def vanished(claim, tag, vr, old, days):
+    return moved(claim, tag, vr, old, b"", days)._replace(line="1 dates are emptied")
 
 
 def new_uid(key, uid):
@@ -868,15 +930,16 @@ IDENTITY = [
     moved("days later", STUDY_DATE, "DA", b"19000228", b"19000301", "+1"),
     moved("and into the past", STUDY_DATE, "DA", b"20000301", b"20000229", "-1"),
     moved("several dates, one empty", STUDY_DATE, "DA", b"20231231\\\\20240228", b"20240101\\\\20240229", "1"),
-    moved("a date that there is not", STUDY_DATE, "DA", b"20230229", b"", "1"),
-    moved("a date past the calendar's end", STUDY_DATE, "DA", b"99991231", b"", "1"),
-    moved("a range", STUDY_DATE, "DA", b"20240101-20240131 ", b"", "1"),
+    vanished("a date that there is not", STUDY_DATE, "DA", b"20230229", "1"),
+    vanished("a date past the calendar's end", STUDY_DATE, "DA", b"99991231", "1"),
+    vanished("a range", STUDY_DATE, "DA", b"20240101-20240131 ", "1"),
     moved("of a date with a time the time stays", DATE_TIME, "DT", b"20231231235960.5+0100 ", b"20240101235960.5+0100 ", "1"),
-    moved("a date with a time that there is not", DATE_TIME, "DT", b"2023123124", b"", "1"),
+    vanished("a date with a time that there is not", DATE_TIME, "DT", b"2023123124", "1"),
     moved("what is read as UN is a date by its tag", STUDY_DATE, "UN", b"20240101", b"20240102", "1"),
     moved("a time stays", 0x00080030, "TM", b"1200", b"1200", "1"),
     moved("256 bytes are moved", STUDY_DATE, "DA", b"\\" * 248 + b"20240101", b"\\" * 248 + b"20240102", "1"),
-    moved("257 are not", STUDY_DATE, "DA", b"\\" * 249 + b"20240101 ", b"", "1"),
+    vanished("257 are not", STUDY_DATE, "DA", b"\\" * 249 + b"20240101 ", "1"),
+    moved("padding alone is not told", STUDY_DATE, "DA", b" \0", b"", "1"),
     moved("a birth date is none of these", 0x00100030, "DA", b"20240101", b"", "1"),
     taken("with +rm what says so is put anew", leaf(DATES, "CS", b"REMOVED "), options="+rm 1", dates=b"MODIFIED"),
     taken("the last of +rl and +rm counts", leaf(STUDY_DATE, "DA", b"20200102"), leaf(STUDY_DATE, "DA", b"20200103"), options="+rl +rm 9 +rm 1", marks="+rm", dates=b"MODIFIED"),
@@ -886,28 +949,28 @@ IDENTITY = [
         "the head: no preamble, and of the meta group what stays",
         "dcmdeid FILE -",
         b"P" * 128 + b"DICM" + group(leaf(0x00020003, "UI", b"1.2.3\0"), leaf(0x00020010, "UI", padded(LITTLE)), leaf(0x00020016, "AE", b"AB")),
-        after_prefix(group(leaf(0x00020003, "UI", new_uid(b"", b"1.2.3")), leaf(0x00020010, "UI", padded(LITTLE))) + said("") + leaf(DATES, "CS", b"REMOVED ")),
+        after_prefix(group(leaf(0x00020003, "UI", new_uid(b"", b"1.2.3")), leaf(0x00020010, "UI", padded(LITTLE)), OWN) + said("") + leaf(DATES, "CS", b"REMOVED ")),
     ),
-    fault("tags have to ascend, in what is removed too", "dcmdeid FILE -", file_of(LITTLE, AB + AB), "R12", AT_SET + 10, "tags not ascending", file_of(LITTLE, leaf(NAME, "PN", b""))),
-    fault("a DICOMDIR", "dcmdeid FILE -", file_of(LITTLE, open_sequence(0x00041220, b"")), "R16", AT_SET, "identity cannot be taken out", file_of(LITTLE, b"")),
-    fault("an encapsulated document", "dcmdeid FILE -", file_of(LITTLE, leaf(0x00420011, "OB", b"AB")), "R16", AT_SET, "identity cannot be taken out", file_of(LITTLE, b"")),
-    Case("pixels may show identity", "dcmdeid FILE -", file_of(LITTLE, SHOWS_IDENTITY), file_of(LITTLE, said("") + SHOWS_IDENTITY + leaf(DATES, "CS", b"REMOVED ")), 3, "pixels may show identity"),
-    Case("with +bi this is not said", "dcmdeid +bi FILE -", file_of(LITTLE, SHOWS_IDENTITY), file_of(LITTLE, said("") + SHOWS_IDENTITY + leaf(DATES, "CS", b"REMOVED "))),
+    fault("tags have to ascend, in what is removed too", "dcmdeid FILE -", file_of(LITTLE, AB + AB), "R12", AT_SET + 10, "tags not ascending", named_by_dcmdeid(leaf(NAME, "PN", b""))),
+    fault("a DICOMDIR", "dcmdeid FILE -", file_of(LITTLE, open_sequence(0x00041220, b"")), "R16", AT_SET, "identity cannot be taken out", named_by_dcmdeid(b"")),
+    fault("an encapsulated document", "dcmdeid FILE -", file_of(LITTLE, leaf(0x00420011, "OB", b"AB")), "R16", AT_SET, "identity cannot be taken out", named_by_dcmdeid(b"")),
+    Case("pixels may show identity", "dcmdeid FILE -", file_of(LITTLE, SHOWS_IDENTITY), named_by_dcmdeid(said("") + SHOWS_IDENTITY + leaf(DATES, "CS", b"REMOVED ")), 3, "pixels may show identity"),
+    Case("with +bi this is not said", "dcmdeid +bi FILE -", file_of(LITTLE, SHOWS_IDENTITY), named_by_dcmdeid(said("") + SHOWS_IDENTITY + leaf(DATES, "CS", b"REMOVED "))),
     Case("OUTPUT has its name at status 0", "dcmdeid FILE OUTPUT", file_of(LITTLE, AB), without_identity("", leaf(NAME, "PN", b"")), after="cat OUTPUT; rm OUTPUT"),
     Case("at status 3 none is left", "dcmdeid FILE OUTPUT", file_of(LITTLE, SHOWS_IDENTITY), b"", 3, "pixels may show identity"),
-    Case("at a fault OUTPUT is as it was", "dcmdeid FILE OUTPUT", file_of(LITTLE, AB + AB), "older\n", 2, f"R12 at byte {AT_SET + 10}: tags not ascending", before="echo older > OUTPUT", after="cat OUTPUT; rm OUTPUT"),
+    Case("at a fault OUTPUT is as it was", "dcmdeid +ow FILE OUTPUT", file_of(LITTLE, AB + AB), "older\n", 2, f"R12 at byte {AT_SET + 10}: tags not ascending", before="echo older > OUTPUT", after="cat OUTPUT; rm OUTPUT"),
     Case("OUTPUT.part is there already", "dcmdeid FILE OUTPUT", file_of(LITTLE, AB), "older\n", 4, PART_IS_THERE, before="echo older > OUTPUT.part", after="cat OUTPUT.part; rm OUTPUT.part"),
     Case("a part that leads nowhere", "dcmdeid FILE OUTPUT", file_of(LITTLE, AB), b"", 4, PART_IS_THERE, before="ln -s new OUTPUT.part", after="rm OUTPUT.part"),
     Case("OUTPUT is looked at first", "dcmdeid FILE OUTPUT", file_of(LITTLE, AB), b"", 4, "output cannot be opened", before="mkdir OUTPUT; echo older > OUTPUT.part", after="rm OUTPUT.part; rmdir OUTPUT"),
     Case("a signal leaves OUTPUT.part", "dcmdeid - OUTPUT < <(cat FILE; exec sleep 20) & sleep 1; kill $!; wait $!; (exit $?)", file_of(LITTLE, AB), "OUTPUT.part\n", 143, before="exec 2> /dev/null", after="ls OUTPUT*; rm OUTPUT.part"),
     Case("a new file has the mode of the umask", "dcmdeid FILE OUTPUT", file_of(LITTLE, AB), "644\n", before="umask 022; chmod 600 FILE", after="stat -c %a OUTPUT; rm OUTPUT"),
-    Case("it gets the mode of an older OUTPUT", "dcmdeid FILE OUTPUT", file_of(LITTLE, AB), "600\n", before="umask 022; echo older > OUTPUT; chmod 600 OUTPUT", after="stat -c %a OUTPUT; rm OUTPUT"),
-    Case("an OUTPUT that nobody may write is replaced", "dcmdeid FILE OUTPUT", file_of(LITTLE, AB), b"444\n" + without_identity("", leaf(NAME, "PN", b"")), before="umask 022; echo older > OUTPUT; chmod 444 OUTPUT", after="stat -c %a OUTPUT; cat OUTPUT; rm -f OUTPUT"),
-    Case("of a mode the bits 777 alone", "dcmdeid FILE OUTPUT", file_of(LITTLE, AB), "755\n", before="umask 022; echo older > OUTPUT; chmod 4755 OUTPUT", after="stat -c %a OUTPUT; rm OUTPUT"),
-    Case("at a fault its mode is as it was", "dcmdeid FILE OUTPUT", file_of(LITTLE, AB + AB), "600\n", 2, f"R12 at byte {AT_SET + 10}: tags not ascending", before="umask 022; echo older > OUTPUT; chmod 600 OUTPUT", after="stat -c %a OUTPUT; rm OUTPUT"),
+    Case("it gets the mode of an older OUTPUT", "dcmdeid +ow FILE OUTPUT", file_of(LITTLE, AB), "600\n", before="umask 022; echo older > OUTPUT; chmod 600 OUTPUT", after="stat -c %a OUTPUT; rm OUTPUT"),
+    Case("an OUTPUT that nobody may write is replaced", "dcmdeid +ow FILE OUTPUT", file_of(LITTLE, AB), b"444\n" + without_identity("", leaf(NAME, "PN", b"")), before="umask 022; echo older > OUTPUT; chmod 444 OUTPUT", after="stat -c %a OUTPUT; cat OUTPUT; rm -f OUTPUT"),
+    Case("of a mode the bits 777 alone", "dcmdeid +ow FILE OUTPUT", file_of(LITTLE, AB), "755\n", before="umask 022; echo older > OUTPUT; chmod 4755 OUTPUT", after="stat -c %a OUTPUT; rm OUTPUT"),
+    Case("at a fault its mode is as it was", "dcmdeid +ow FILE OUTPUT", file_of(LITTLE, AB + AB), "600\n", 2, f"R12 at byte {AT_SET + 10}: tags not ascending", before="umask 022; echo older > OUTPUT; chmod 600 OUTPUT", after="stat -c %a OUTPUT; rm OUTPUT"),
     Case("OUTPUT is no regular file", "dcmdeid FILE OUTPUT", file_of(LITTLE, AB), b"", 4, "output cannot be opened", before="mkdir OUTPUT", after="rmdir OUTPUT"),
     Case("OUTPUT is KEY under another name", "dcmdeid +k key FILE OUTPUT", file_of(LITTLE, AB), MADE_KEY, 4, "output cannot be opened", before=f"{MAKES_KEY}; ln key OUTPUT", after="cat key; rm key OUTPUT"),
-    Case("a link at OUTPUT is replaced", "dcmdeid FILE OUTPUT", file_of(LITTLE, AB), "older\n", before="echo older > other; ln -s other OUTPUT", after="cat other; rm other; [ -L OUTPUT ] || rm OUTPUT"),
+    Case("a link at OUTPUT is replaced", "dcmdeid +ow FILE OUTPUT", file_of(LITTLE, AB), "older\n", before="echo older > other; ln -s other OUTPUT", after="cat other; rm other; [ -L OUTPUT ] || rm OUTPUT"),
     refused("V3: no key after +k", "dcmdeid FILE out +k", "V3 at word 4: bad option value"),
     refused("V3: a key from standard input", "dcmdeid +k - FILE out", "V3 at word 2: bad option value"),
     refused("V3: no days after +rm", "dcmdeid FILE out +rm", "V3 at word 4: bad option value"),
@@ -1047,7 +1110,7 @@ CAUSES = [
 
 TOOLS = ["dcmdump", "dcmconv", "dump2dcm", "dcmodify", "dcmdeid", "dcm2csv"]
 OPTIONS = [
-    ["-L", "+L", "+u8", "+fo", "-f", "-ti", "-te", "-tb", "-dict", "+dict"],
+    ["-L", "+L", "+u8", "+P", "+p", "-p", "+fo", "-f", "-ti", "-te", "-tb", "-dict", "+dict"],
     ["+t=", "+ti", "+te", "+tb", "-e", "+fo", "-dict", "+dict"],
     ["+l", "-e"],
     ["-i", "-m", "-e", "-ma", "-ea", "-ep", "-dict", "+dict"],
@@ -1055,8 +1118,8 @@ OPTIONS = [
     ["-k", "+nh", "+by", "+u8", "@LIST"],
 ]
 
-TEXTS = [Shows(f"{word} of the program", word, TOOLS) for word in ("help", "--help")]
-TEXTS += [Shows(f"{word} of {tool}", f"{tool} {word}", [tool, *options]) for tool, options in zip(TOOLS, OPTIONS) for word in ("help", "--help")]
+TEXTS = [Shows(f"{word} of the program", word, TOOLS) for word in ("help", "--help", "-h")]
+TEXTS += [Shows(f"{word} of {tool}", f"{tool} {word}", [tool, *options]) for tool, options in zip(TOOLS, OPTIONS) for word in ("help", "--help", "-h")]
 TEXTS += [Shows(f"{word} {tool}", f"{tool} {word}", ["0.2.0", "2022a"]) for tool in ("", *TOOLS) for word in ("version", "--version")]
 
 SEQUENCE_OF_20 = head(IMAGES, "SQ", 20)
@@ -1121,7 +1184,7 @@ TREES = [
     tree("an edit without a place: the file is written", "dcmodify -m PatientID=7 +r in out", ROWS_BEGIN + '"a","a","unplaced"\n', 3, "a: edit 1 found no place", holds="cmp FILE out/a"),
     tree("a file at fault", "dcmconv +r in out", ROWS_BEGIN + '"a",,"refused"\n', 2, f"a: R1 at byte {AT_SET + 9}: input ends too early", before="truncate -s -1 in/a", holds="[ ! -e out/a ]"),
     tree("+c: what is there stays", "dcmconv +c +r in out", ROWS_BEGIN + '"a","a","there"\n', before="mkdir out; echo old > out/a", holds="[ $(cat out/a) = old ]"),
-    tree("a list names a file twice", "dcmconv +r @list out", ROWS_BEGIN + '"./FILE","FILE","written"\n"FILE","FILE","there"\n', 4, "FILE: output is there already", before="printf './FILE\\nFILE\\n' > list"),
+    tree("a list names a file twice", "dcmconv +r @list out", ROWS_BEGIN + '"./FILE","FILE","written"\n"FILE","FILE","taken"\n', 4, "FILE: output is there already", before="printf './FILE\\nFILE\\n' > list"),
     tree("a list on standard input", "dcmconv +r @- out <<< in/a", ROWS_BEGIN + '"in/a","in/a","written"\n'),
     tree("a list follows links", "dcmconv +r @- out <<< in/l", ROWS_BEGIN + '"in/l","in/l","written"\n', before="ln -s a in/l"),
     tree("of a list OUTPUT may be in the current folder, and is not read", "dcmconv +r @- out <<< out/a", ROWS_BEGIN + '"out/a",,"left-out"\n', 4, "out/a: output is not read"),
@@ -1137,7 +1200,7 @@ TREES = [
     no_tree("OUTPUT is FOLDER", "dcmconv +c +r in ./in", "output is the input"),
     no_tree("OUTPUT is in FOLDER", "dcmconv +r in in/out", "output is within the input"),
     no_tree("FOLDER is in OUTPUT", "dcmconv +c +r in .", "input is within the output"),
-    no_tree("a part is there", "dcmconv +c +r in out", ".part.1: another run is at work, or was cut off", "mkdir out; touch out/.part.1"),
+    no_tree("a part is there that is no file", "dcmconv +c +r in out", ".part.1: another run is at work, or was cut off", "mkdir -p out/.part.1"),
     no_tree("OUTPUT is not empty", "dcmconv +r in out", "output is not empty", "mkdir out; touch out/b"),
     tree("no files", "dcmconv +r in out", ROWS_BEGIN, 4, "input has no files", before="rm in/a"),
     tree("a name that does not fit", "dcmconv +r @- out <<< ../in/a", ROWS_BEGIN + '"../in/a",,"left-out"\n', 4, "../in/a: name does not fit"),

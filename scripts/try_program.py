@@ -106,6 +106,7 @@ FILES = {
 
 # what OUTPUT that is FILE is answered with
 SAME = "output is the input"
+THERE = "output is there already"
 
 # what it is, the words after the program for a shell, the status, the line on standard error
 CASES = [
@@ -116,7 +117,6 @@ CASES = [
     ("an unknown tool", "dcmfind name.dcm", 1, "V1 at word 1: unknown tool"),
     ("a word that is no text", "$'\\xff'", 1, "V1 at word 1: unknown tool"),
     ("an empty word", "''", 1, "V1 at word 1: unknown tool"),
-    ("a short word of usage", "-h", 1, "V1 at word 1: unknown tool"),
     ("a word of usage in capitals", "HELP", 1, "V1 at word 1: unknown tool"),
     ("a path after a word of usage", "--help name.dcm", 1, "V1 at word 1: unknown tool"),
     ("two words after a word of usage", "help dcmdump dcmconv", 0, ""),
@@ -228,9 +228,14 @@ WRITTEN = [
     ("options after the paths", "dcmconv name.dcm out +tb -e +fo", 0, "", "out", BIG),
     ("a conversion to its own syntax", "dcmconv name.dcm out", 0, "", "out", NAME),
     ("the last of two options", "dcmconv +tb +t= name.dcm out", 0, "", "out", NAME),
-    ("an older output", "dcmconv name.dcm older", 0, "", "older", NAME),
+    ("an older output", "dcmconv +ow name.dcm older", 0, "", "older", NAME),
+    ("an older output that stays", "dcmconv name.dcm older", 4, THERE, "older", FILES["older"]),
+    ("lines into an older output", "dump2dcm lines older", 4, THERE, "older", FILES["older"]),
+    ("edits into an older output", "dcmodify -m PatientID=7 name.dcm older", 4, THERE, "older", FILES["older"]),
+    ("identity out of a file into an older output", "dcmdeid name.dcm older", 4, THERE, "older", FILES["older"]),
+    ("a file at fault and an older output", "dcmconv empty older", 4, THERE, "older", FILES["older"]),
     ("a cut file", "dcmconv cut out", 2, "R1 at byte 182: input ends too early", "out", NAME[:182]),
-    ("an empty file", "dcmconv empty older", 2, "R1 at byte 0: input ends too early", "older", FILES["older"]),
+    ("an empty file", "dcmconv +ow empty older", 2, "R1 at byte 0: input ends too early", "older", FILES["older"]),
     (
         "an encapsulated file",
         "dcmconv +te jpeg.dcm out",
@@ -264,7 +269,7 @@ WRITTEN = [
     ("an edit of standard streams", "dcmodify -m PatientName=Q - - < name.dcm > out", 0, "", "out", REPLACED),
     ("an edit by its number", "dcmodify -i '(0010,0020)=7' name.dcm out", 0, "", "out", WITH_ID),
     ("a value with a space", "dcmodify -m 'PatientName=Doe^Jane M' name.dcm out", 0, "", "out", SPACED),
-    ("no edits", "dcmodify name.dcm older", 0, "", "older", NAME),
+    ("no edits", "dcmodify +ow name.dcm older", 0, "", "older", NAME),
     ("an edit that finds no place", "dcmodify -m PatientID=7 name.dcm out", 3, "edit 1 found no place", "out", NAME),
     (
         "an edit that finds its place beside two others",
@@ -292,7 +297,7 @@ WRITTEN = [
         "out",
         REPLACED,
     ),
-    ("an edit of an empty file", "dcmodify -ep empty older", 2, "R1 at byte 0: input ends too early", "older", FILES["older"]),
+    ("an edit of an empty file", "dcmodify +ow -ep empty older", 2, "R1 at byte 0: input ends too early", "older", FILES["older"]),
     ("refused edits", "dcmodify -ep -x name.dcm older", 1, "U1 in edit 2: bad option or path", "older", FILES["older"]),
     ("edits of a missing path", "dcmodify -ep missing older", 4, "input cannot be opened", "older", FILES["older"]),
     (
@@ -331,7 +336,7 @@ WRITTEN = [
     ("the same file, and standard error closed", "dcmconv name.dcm - >> name.dcm 2>&-", 4, "", "name.dcm", NAME),
     ("the same file, and a missing one", "dcmconv missing - >> name.dcm", 4, "input cannot be opened", "name.dcm", NAME),
     ("the same file, and refused words", "dcmconv +x name.dcm - >> name.dcm", 1, "V2 at word 2: unknown option", "name.dcm", NAME),
-    ("the output as a standard input that is not read", "dcmconv name.dcm older < older", 0, "", "older", NAME),
+    ("the output as a standard input that is not read", "dcmconv +ow name.dcm older < older", 0, "", "older", NAME),
     ("the input as a standard output that is not written", "dcmconv name.dcm out >> name.dcm", 0, "", "out", NAME),
     ("the end of another file", "dcmconv +tb name.dcm - >> empty", 0, "", "empty", BIG),
     ("a link to no file", "dcmconv name.dcm leading", 0, "", "out", NAME),
@@ -342,13 +347,13 @@ WRITTEN = [
     ("an edit in UTF-8", "dcmodify -m $'PatientName=M\\xc3\\xbcller' name.dcm out", 0, "", "out", UTF_8),
     ("a new element that is no text", "dcmodify -i $'PatientID=\\xfc' name.dcm out", 0, "", "out", NAME + b"\x10\0\x20\0LO\2\0\xfc "),
     ("files with the names of words", "dcmconv help out +tb", 0, "", "out", BIG),
-    ("an output with the name of a word", "dcmconv +tb help version", 0, "", "version", BIG),
+    ("an output with the name of a word", "dcmconv +ow +tb help version", 0, "", "version", BIG),
     ("a path of a file with such a name", "dcmconv +tb ./help out", 0, "", "out", BIG),
-    ("edits to a file with such a name", "dcmodify help version", 0, "", "version", NAME),
+    ("edits to a file with such a name", "dcmodify +ow help version", 0, "", "version", NAME),
     ("a last line without its end", "dump2dcm <(printf %s '(0002,0010) UI =LittleEndianExplicit') out", 0, "", "out", GROUP),
     (
         "an encapsulated file beside an older output",
-        "dcmconv +te jpeg.dcm older",
+        "dcmconv +ow +te jpeg.dcm older",
         2,
         "R14 at byte 174: encapsulated syntax cannot be changed",
         "older",
@@ -411,7 +416,7 @@ COMMANDS += [
     ("the mode of a new file", "umask 027; \"$0\" dcmconv name.dcm out; test $(stat -c %a out) = 640", 0, "", "out", NAME),
     (
         "the mode of an older file",
-        "chmod 600 older; \"$0\" dcmconv name.dcm older; test $(stat -c %a older) = 600",
+        "chmod 600 older; \"$0\" dcmconv +ow name.dcm older; test $(stat -c %a older) = 600",
         0,
         "",
         "older",
@@ -429,7 +434,7 @@ WITHOUT_PROC = [
 ]
 
 # words that are answered with usage or a version, and what has to be in the answer
-USAGE, VERSION = ("help", "--help"), ("version", "--version")
+USAGE, VERSION = ("help", "--help", "-h"), ("version", "--version")
 TOOLS = ("dcmdump", "dcmconv", "dump2dcm", "dcmodify")
 ANSWERED = [([word], TOOLS) for word in USAGE]
 ANSWERED += [([tool, word], (tool,)) for tool in TOOLS for word in USAGE]

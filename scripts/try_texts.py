@@ -6,7 +6,7 @@
 It needs pydicom (Debian's python3-pydicom), whose files for tests are in eleven sets: PS3.3 C.12.1.1.2 and the examples of PS3.5, annexes H, I,
 J and K. Of each file the name that is written below has to be in the dump and in the table. Of all files of pydicom, and of FOLDERs, dumps and
 tables by `+u8` have to be valid UTF-8, and so have the dumps of each file cut in its middle. Where no byte of the dump without `+u8` is above 7E
-or an escape, the dump with it has to be the same.
+or an escape, the dump with it has to be the same but for the end of its first line.
 """
 import os
 import subprocess
@@ -36,6 +36,9 @@ NAMES = {
     "chrX1.dcm": "Wang^XiaoDong=王^小東=",
     "chrX2.dcm": "Wang^XiaoDong=王^小东=",
 }
+
+# The end of the first line of a dump by characters.
+MARK = b" (texts in UTF-8)\n"
 
 # Those whose name is in an item, where a table has no column for it, or in other names.
 NOT_IN_TABLES = {"chrSQEncoding.dcm", "chrSQEncoding1.dcm", "chrFrenMulti.dcm", "chrJapMulti.dcm", "chrJapMultiExplicitIR6.dcm", "chrKoreanMulti.dcm"}
@@ -69,7 +72,7 @@ def wrong_bytes(binary, path):
     table = printed(binary, "dcm2csv", "+u8", "-k", "PatientName", "-k", "PatientID", path)
     wrong = [f"{path}: the {what} is no UTF-8" for what, output in (("dump", with_word), ("cut dump", cut), ("table", table)) if not is_utf8(output)]
     is_ascii = without.isascii() and b"%1B" not in without
-    return wrong + ([f"{path}: a dump of ASCII is another one"] if is_ascii and with_word != without else [])
+    return wrong + ([f"{path}: a dump of ASCII is another one"] if is_ascii and with_word != without.replace(b"\n", MARK, 1) else [])
 
 
 def files_in(folder):

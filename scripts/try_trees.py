@@ -243,14 +243,15 @@ ENDS_EARLY, NO_PREFIX = b"R1 at byte 185: input ends too early", b"R2 at byte 12
 EMPTY = b"input has no files"
 CUT_OFF = b": another run is at work, or was cut off"
 UNOPENED, OUTPUT_UNOPENED = b"input cannot be opened", b"output cannot be opened"
+ONE_EMPTIED = b"1 dates are emptied"
 
 
-SOP_INSTANCE_UID, PATIENT_ID, STUDY_UID, SERIES_UID, BURNED_IN = 0x00080018, 0x00100020, 0x0020000D, 0x0020000E, 0x00280301
+SOP_INSTANCE_UID, STUDY_DATE, PATIENT_ID, STUDY_UID, SERIES_UID, BURNED_IN = 0x00080018, 0x00080020, 0x00100020, 0x0020000D, 0x0020000E, 0x00280301
 
 
-def instance(study, series, uid, *, patient=b"7 ", pixels=b"NO"):
+def instance(study, series, uid, *, patient=b"7 ", pixels=b"NO", date=None):
     """A file of an instance; an identifier that is None is missing."""
-    elements = [(SOP_INSTANCE_UID, "UI", uid), (PATIENT_ID, "LO", patient), (STUDY_UID, "UI", study), (SERIES_UID, "UI", series), (BURNED_IN, "CS", pixels)]
+    elements = [(SOP_INSTANCE_UID, "UI", uid), (STUDY_DATE, "DA", date), (PATIENT_ID, "LO", patient), (STUDY_UID, "UI", study), (SERIES_UID, "UI", series), (BURNED_IN, "CS", pixels)]
     return file_of(IMPLICIT, b"".join(even_leaf(*of, IMPLICIT) for of in elements if of[2] is not None))
 
 
@@ -293,6 +294,7 @@ EDITS = "dcmodify -m PatientID=7 -ea PatientName -m Rows=2"
 
 # instances, and those that have no fit identifier
 INSTANCE, SECOND = instance(b"1.2", b"1.3", b"1.4"), instance(b"1.2", b"1.5", b"1.6\0\0")
+VANISHING = instance(b"1.2", b"1.3", b"1.4", date=b"2024.01.01")
 FIRST_NAME, SECOND_NAME, LONG_NAME = b"1.2/1.3/1.4.dcm", b"1.2/1.5/1.6.dcm", b"1" * 64 + b"/2/....dcm"
 UNFIT_INSTANCES = {
     b"in/none": instance(None, None, b"1.4"), b"in/up": instance(b"..", b"1.3", b"1.4"), b"in/here": instance(b"1.2", b".", b"1.4"),
@@ -349,8 +351,6 @@ CASES = [
     no_rows("FOLDER is within OUTPUT", {}, "dcmconv +c +r in/x in", b"input is within the output"),
     no_rows("FOLDER is within OUTPUT, by a link", {b"l": Link(b"in/x")}, "dcmconv +c +r l in", b"input is within the output"),
     no_rows("OUTPUT is the current folder, of a list", {b"l": b"in/a\n"}, "dcmconv +c +r @l .", b"output is the input"),
-    no_rows("a run that was cut off", {b"out/.part.1": b""}, "dcmconv +c +r in out", b".part.1" + CUT_OFF),
-    no_rows("a part that was cut off", {b"out/.part.7": b"", b"out/a": b"o"}, "dcmconv +part 7/9 +r in out", b".part.7" + CUT_OFF),
     no_rows("a part is a link", {b"out/.part.1": Link(b"gone")}, "dcmconv +c +r in out", b".part.1" + CUT_OFF),
     Case("links to both", {**FOLDER, b"folder": Link(b"in"), b"new": None, b"output": Link(b"new")}, "dcmconv +r folder output", written(b"a", b"x/b"),
          after={b"new/a": CONVERTED, b"new/x/b": DONE[b"out/x/b"]}),
@@ -383,7 +383,7 @@ CASES = [
     Case("a part without names", HALVES, "dcmconv +part 9999/9999 +r in out", after={b"out": None}),
     # lists
     Case("a list", LIST_FOLDER, "dcmconv +r @list out",
-         [(b"in/a", b"in/a", b"written"), (b"./in/x/b", b"in/x/b", b"written"), (b"l", b"l", b"written"), (b"in/a", b"in/a", b"there"), *not_done(b"unread", b"gone", b"in/a/b"),
+         [(b"in/a", b"in/a", b"written"), (b"./in/x/b", b"in/x/b", b"written"), (b"l", b"l", b"written"), (b"in/a", b"in/a", b"taken"), *not_done(b"unread", b"gone", b"in/a/b"),
           *not_done(b"left-out", *UNFIT, b"nul\0", b"\\xff", b"in", b"DICOMDIR", b"out/x", b"out", b".part.1")],
          (*told(b"name does not fit", *UNFIT, b"nul\\00"), b"\xff: name is no UTF-8", b"in: no regular file", *told(UNOPENED, b"gone", b"in/a/b"),
           b"DICOMDIR: DICOMDIR is left out", *told(b"output is not read", b"out/x", b"out"), b".part.1: part of another run", b"in/a: output is there already"), 4,
@@ -404,6 +404,8 @@ CASES = [
     Case("+v of all kinds", {**FOLDER, b"in/c": TEXT, b"in/d": TEXT, b"out/a": b"o"}, "dcmodify -m PatientID=1 +v +c +r in out",
          written(b"a", word=b"there") + written(b"x/b", word=b"unplaced") + not_done(b"refused", b"c", b"d"), (b"x/b: edit 1 found no place", *told(NO_PREFIX, b"c", b"d")), 3,
          {b"out/x/b": Alone("dcmodify -m PatientID=1", OTHER)}, counts=b"4 files, 1 written, 1 there, 2 not done\n"),
+    Case("+v of a name that is taken", {b"in/a": NAME}, "dcmconv +v +r @- out", [(b"in/a", b"in/a", b"written"), (b"./in/a", b"in/a", b"taken")], (b"./in/a: output is there already",), 4,
+         {b"out/in/a": CONVERTED}, stdin=b"in/a\n./in/a\n", counts=b"2 files, 1 written, 0 there, 1 not done\n"),
     Case("+v of a hundred", copies(b"%d" % n for n in range(100)), "dcmconv +r +v in out", written(*(b"%d" % n for n in range(100))),
          counts=b"100 files, 100 written, 0 there, 0 not done\r100 files, 100 written, 0 there, 0 not done\n", after=copies((b"%d" % n for n in range(100)), CONVERTED, b"out/")),
     no_rows("standard output is full", {}, "dcmconv +r in out", b"output failed", is_full=True, after={b"out": None}),
@@ -418,11 +420,20 @@ CASES = [
     Case("64 digits and padding", {b"in/a": instance(b"1" * 64, b"2" + b"\0 " * 300, b"...")}, "dcmdeid +ru +r in out", by_identifiers((b"a", LONG_NAME)),
          after={b"out/" + LONG_NAME: Alone("dcmdeid +ru", instance(b"1" * 64, b"2" + b"\0 " * 300, b"..."))}),
     Case("a copy is there", {b"in/a": INSTANCE, b"out/" + FIRST_NAME: Alone("dcmdeid +ru", INSTANCE)}, "dcmdeid +ru +c +r in out", [(b"a", FIRST_NAME, b"there")]),
-    Case("another file is there", {b"in/a": INSTANCE, b"out/" + FIRST_NAME: b"old"}, "dcmdeid +ru +c +r in out", [(b"a", FIRST_NAME, b"there")], (b"a: output is there already",), 4),
+    Case("another file is there", {b"in/a": INSTANCE, b"out/" + FIRST_NAME: b"old"}, "dcmdeid +ru +c +r in out", [(b"a", FIRST_NAME, b"taken")], (b"a: output is there already",), 4),
     Case("a longer file is there", {b"in/a": INSTANCE, b"out/" + FIRST_NAME: Alone("dcmdeid +ru", instance(b"1.2", b"1.3", b"1.4", patient=b""))}, "dcmdeid +ru +rp +c +r in out",
-         [(b"a", FIRST_NAME, b"there")], (b"a: output is there already",), 4),
+         [(b"a", FIRST_NAME, b"taken")], (b"a: output is there already",), 4),
     Case("something else is there", {b"in/a": INSTANCE, b"out/1.2": b"old"}, "dcmdeid +ru +c +r in out", not_done(b"unwritten", b"a"), (b"a: " + OUTPUT_UNOPENED,), 4),
     Case("pixels", {b"in/a": instance(b"1.2", b"1.3", b"1.4", pixels=b"YES")}, "dcmdeid +ru +r in out", not_done(b"pixels", b"a"), (b"a: pixels may show identity",), 3, {b"out": None}),
+    Case("dates vanish", {b"in/a": VANISHING, b"in/b": INSTANCE, b"in/c": VANISHING[:-1]}, "dcmdeid +kn +rm 1 +r in out", written(b"a", b"b") + not_done(b"refused", b"c"),
+         (*told(ONE_EMPTIED, b"a", b"c"), b"c: R1 at byte %d: input ends too early" % (len(VANISHING) - 1)), 2,
+         {b"out/a": Alone("dcmdeid +rm 1", VANISHING), b"out/b": Alone("dcmdeid +rm 1", INSTANCE)}),
+    Case("dates vanish, and pixels", {b"in/a": instance(b"1.2", b"1.3", b"1.4", pixels=b"YES", date=b"TODAY")}, "dcmdeid +ru +rm 1 +r in out", not_done(b"pixels", b"a"),
+         (b"a: " + ONE_EMPTIED, b"a: pixels may show identity"), 3, {b"out": None}),
+    Case("dates vanish, and the name is missing", {b"in/a": instance(b"1.2", None, b"1.4", date=b"TODAY")}, "dcmdeid +ru +rm 1 +r in out", not_done(b"unnamed", b"a"),
+         (b"a: " + ONE_EMPTIED, b"a: SeriesInstanceUID is missing or unfit"), 2, {b"out": None}),
+    Case("dates vanish, and a copy is there", {b"in/a": VANISHING, b"out/" + FIRST_NAME: Alone("dcmdeid +ru +rm 1", VANISHING)}, "dcmdeid +ru +rm 1 +c +r in out", [(b"a", FIRST_NAME, b"there")],
+         (b"a: " + ONE_EMPTIED,)),
     Case("+rm key", {b"key": KEY, b"in/-": instance(b"1.2", b"1.3", b"1.4", patient=b""), b"in/a": INSTANCE, b"in/t": TEXT}, "dcmdeid +k key +ru +rm key +r in out",
          by_identifiers((b"a", FIRST_NAME)) + not_done(b"refused", b"-", b"t"), (b"-: " + NOBODY_NAMED, b"t: " + NO_PREFIX), 2,
          {b"out/" + FIRST_NAME: Alone("dcmdeid +ru +rm -1", INSTANCE)}),
@@ -525,6 +536,41 @@ def closed_folders(folder):
             os.chown(name, NOBODY, NOBODY, follow_symlinks=False)
     for name, mode in (("in/closed", 0), ("in/listed", 0o444), ("out/full", 0o555)):
         os.chmod(os.path.join(folder, name), mode)
+
+
+# folders that are read, and what those are whose modes are said in `folder_modes`
+MODES = {b"in": 0o750, b"in/x": 0o700, b"in/x/y": 0o500, b"in/z": 0o755}
+IN_FOLDERS = {b"in/a": INSTANCE, b"in/x/y/b": SECOND, b"in/z/c": INSTANCE, b"list": b"in/a\nin/x/y/b\nin/z/c\n"}
+MADE_MODES = (
+    ("dcmconv +r in out", {b"out": 0o750, b"out/x": 0o700, b"out/x/y": 0o700, b"out/z": 0o755}),
+    ("dcmdeid +kn +r in out", {b"out": 0o750, b"out/x": 0o700, b"out/x/y": 0o700, b"out/z": 0o755}),
+    ("dcmdeid +ru +r in out", {b"out": 0o750, b"out/1.2": 0o750, b"out/1.2/1.3": 0o750, b"out/1.2/1.5": 0o750}),
+    ("dcmconv +r @list out", {b"out": 0o777, b"out/in": 0o777, b"out/in/x": 0o777, b"out/in/x/y": 0o777, b"out/in/z": 0o777}),
+)
+
+
+def modes_below(folder, name):
+    """The modes of a folder and of those in it."""
+    paths = (os.path.relpath(os.fsencode(path), os.fsencode(folder)) for path, _, _ in os.walk(os.path.join(folder, name)))
+    return {path: stat.S_IMODE(os.stat(os.path.join(os.fsencode(folder), path)).st_mode) for path in paths}
+
+
+def folder_modes(room):
+    """By names that are kept, by identifiers and of a list, less a umask; what is there keeps its mode."""
+    wrong = []
+    for umask in 0o22, 0o77:
+        for words, wanted in MADE_MODES:
+            folder = room.folder(IN_FOLDERS)
+            for name, mode in MODES.items():
+                os.chmod(os.path.join(os.fsencode(folder), name), mode)
+            done = room.run(words, folder, umask=umask)
+            wrong += difference(f"{words}, umask {umask:o}: status", 0, 0 if done.returncode == 0 else done.stderr)
+            wrong += difference(f"{words}, umask {umask:o}", {path: mode & ~umask for path, mode in wanted.items()}, modes_below(folder, "out"))
+            os.chmod(os.path.join(folder, "in/x/y"), 0o700)
+    folder = room.folder({b"in/x/a": NAME, b"out/x": None})
+    os.chmod(os.path.join(folder, "in/x"), 0o700)
+    room.run("dcmconv +c +r in out", folder)
+    return wrong + difference("what is there", {b"out": 0o755, b"out/x": 0o755}, modes_below(folder, "out"))
 
 
 def without_rights(room):
@@ -680,7 +726,7 @@ def twice_at_once(room):
     """Two runs of one part: one of them may end at the other's part, the other does all."""
     files, rows, status, _ = one_run(room)
     folder, ends = ended_at_once(room, ["dcmconv +c +r in out"] * 2)
-    refused = [end for end in ends if end[2].endswith(line(b".part.1" + CUT_OFF))]
+    refused = [end for end in ends if end[2].endswith(line(b".part.1: another run is at work"))]
     wrong = differences_of_trees(files, files_of(folder)) + [f"ended: {end[2]!r:.200}" for end in ends if end not in refused and end[0] != status]
     wrong += [f"{len(refused)} runs ended at a part"] if len(refused) > 1 else []
     done = [row[0] for end in ends for row in end[1] if row[2] == "written"]
@@ -730,12 +776,10 @@ def killed(room, cut_off):
     is_whole = {b"out/" + path for path in left_files} == {path for path in files if path.startswith(b"out/")}
     cut_off["in a file" if b".part.1" in left_files else "at its end" if is_whole else "between files"] += 1
     wrong = halves({path: what for path, what in left_files.items() if path != b".part.1"}, outputs)
-    if b".part.1" in left_files:
-        done = room.run("dcmconv +c +r in out", folder)
-        wrong += wrong_run(Case("", {}, "", None, (b".part.1" + CUT_OFF,), 4), done) + differences_of_trees(left_files, files_of(out))
-        os.remove(os.path.join(out, ".part.1"))
     done = room.run("dcmconv +c +r in out", folder)
+    told_left = line(b".part.1: left over, and removed") in done.stderr
     wrong += difference("status", status, done.returncode) + differences_of_trees(files, files_of(folder))
+    wrong += difference("told of the part", b".part.1" in left_files, told_left)
     shutil.rmtree(folder)
     return wrong
 
@@ -765,7 +809,7 @@ FAULTY_RUNS = (
 KNOWN_LINE = re.compile(
     rb"dcmtools: ([^\n]*: )?(input cannot be opened|output cannot be opened|folder cannot be read|output failed|out of memory|no regular file|DICOMDIR is left out|"
     rb"reading failed after \d+ bytes|R\d+ at byte \d+: [a-zA-Z ]+|output is there already|input has no files|output is not empty|"
-    rb"\.part\.\d: another run is at work, or was cut off)\n|\d+ files, \d+ written, \d+ there, \d+ not done[\r\n]")
+    rb"\.part\.\d: (another run is at work(, or was cut off)?|left over, and removed))\n|\d+ files, \d+ written, \d+ there, \d+ not done[\r\n]")
 
 
 class Faulted(NamedTuple):
@@ -876,7 +920,7 @@ class Report:
 
 
 OF_SYSTEMS = (
-    ("a deep tree", deep_tree),
+    ("a deep tree", deep_tree), ("modes of folders", folder_modes),
     ("rights of nobody", without_rights), ("no rights at all", no_rights_at_all), ("a full disk", full_disk), ("a disk without room for names", no_more_files),
     ("no hard links", without_links), ("OUTPUT mounted within FOLDER", mounted_within), ("parts in turn", parts_in_turn), ("parts of lists", parts_of_lists),
 )

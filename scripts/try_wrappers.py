@@ -48,7 +48,7 @@ PATHS = "dcmtools: V4: wrong number of paths\n"
 OPTION = "dcmtools: V2 at word 5: unknown option\n"
 PATH_FAULT = "dcmtools: U1 in edit {}: bad option or path\n"
 UNKNOWN_TAG = "dcmtools: U2 in edit 1: unknown tag\n"
-EXISTS = "dcmodify: older exists: give --overwrite first to replace it\n"
+THERE = "dcmtools: output is there already\n"
 PART = "out.part exists: move it away, or give another OUTPUT\n"
 CONVERTED_PART = "dcmconv: " + PART
 UNNAMED_PART = "dcmconv: OUTPUT.part exists: move it away, or give another OUTPUT\n"
@@ -61,17 +61,17 @@ ROWS_OF_TREE = '"File","Output","Status"\n"a","a","{}"\n'
 # what it is, the words for a shell, the status, what is on standard error, and the files that it changes
 CASES = [
     ("a new file", "dcmconv +tb name.dcm out", 0, "", {"out": BIG}),
-    ("an older file", "dcmconv +tb name.dcm older", 0, "", {"older": BIG}),
-    ("options after the paths", "dcmconv name.dcm older +tb -e +fo", 0, "", {"older": BIG}),
-    ("an option between the paths", "dcmconv name.dcm +tb older", 0, "", {"older": BIG}),
-    ("standard input", "dcmconv +tb - older < name.dcm", 0, "", {"older": BIG}),
-    ("a pipe", "cat name.dcm | dcmconv +tb - older", 0, "", {"older": BIG}),
-    ("a pipe by its name", "dcmconv +tb <(cat name.dcm) older", 0, "", {"older": BIG}),
+    ("an older file", "dcmconv +ow +tb name.dcm older", 0, "", {"older": BIG}),
+    ("options after the paths", "dcmconv +ow name.dcm older +tb -e +fo", 0, "", {"older": BIG}),
+    ("an option between the paths", "dcmconv +ow name.dcm +tb older", 0, "", {"older": BIG}),
+    ("standard input", "dcmconv +ow +tb - older < name.dcm", 0, "", {"older": BIG}),
+    ("a pipe", "cat name.dcm | dcmconv +ow +tb - older", 0, "", {"older": BIG}),
+    ("a pipe by its name", "dcmconv +ow +tb <(cat name.dcm) older", 0, "", {"older": BIG}),
     ("standard output", "dcmconv +tb name.dcm - > out", 0, "", {"out": BIG}),
     ("standard output by its name", "dcmconv +tb name.dcm /dev/stdout > out", 0, "", {"out": BIG}),
     ("standard streams", "dcmconv +tb - - < name.dcm | cat > out", 0, "", {"out": BIG}),
     ("a stream by its number", "dcmconv +tb name.dcm /dev/fd/3 3> out", 0, "", {"out": BIG}),
-    ("an open file by its number", "dcmconv +tb /dev/fd/3 older 3< name.dcm", 0, "", {"older": BIG}),
+    ("an open file by its number", "dcmconv +ow +tb /dev/fd/3 older 3< name.dcm", 0, "", {"older": BIG}),
     ("the null device", "dcmconv name.dcm /dev/null", 0, "", {}),
     ("a named pipe", "dcmconv +tb name.dcm queue & cat queue > out; wait", 0, "", {"out": BIG}),
     ("another folder", "mkdir sub && dcmconv +tb name.dcm sub/out", 0, "", {"sub/out": BIG}),
@@ -82,17 +82,17 @@ CASES = [
     ("a missing file", "dcmconv missing older", 4, INPUT_FAILED, {}),
     ("a missing file and no older one", "dcmconv missing out", 4, INPUT_FAILED, {}),
     ("a folder as a file", "dcmconv . older", 4, INPUT_FAILED, {}),
-    ("a cut file", "dcmconv cut older", 2, CUT, {}),
+    ("a cut file", "dcmconv +ow cut older", 2, CUT, {}),
     ("a cut file and no older one", "dcmconv cut out", 2, CUT, {}),
     ("a cut file to standard output", "dcmconv cut - > out", 2, CUT, {"out": NAME[:182]}),
-    ("a closed standard input", "dcmconv - older <&-", 4, "dcmtools: reading failed after 0 bytes\n", {}),
-    ("a closed standard input beside a file", "dcmconv +tb name.dcm older <&-", 0, "", {"older": BIG}),
-    ("a closed standard output", "dcmconv +tb name.dcm older >&-", 0, "", {"older": BIG}),
-    ("a closed standard error", "dcmconv cut older 2>&-", 2, "", {}),
-    ("all streams closed", "dcmconv +tb name.dcm older <&- >&- 2>&-", 0, "", {"older": BIG}),
-    ("a limit of the size", "trap '' XFSZ; ulimit -f 1; dcmconv large.dcm older", 4, OUTPUT_FAILED, {}),
+    ("a closed standard input", "dcmconv +ow - older <&-", 4, "dcmtools: reading failed after 0 bytes\n", {}),
+    ("a closed standard input beside a file", "dcmconv +ow +tb name.dcm older <&-", 0, "", {"older": BIG}),
+    ("a closed standard output", "dcmconv +ow +tb name.dcm older >&-", 0, "", {"older": BIG}),
+    ("a closed standard error", "dcmconv +ow cut older 2>&-", 2, "", {}),
+    ("all streams closed", "dcmconv +ow +tb name.dcm older <&- >&- 2>&-", 0, "", {"older": BIG}),
+    ("a limit of the size", "trap '' XFSZ; ulimit -f 1; dcmconv +ow large.dcm older", 4, OUTPUT_FAILED, {}),
     ("a limit of the size of a new file", "trap '' XFSZ; ulimit -f 1; dcmconv large.dcm out", 4, OUTPUT_FAILED, {}),
-    ("a large file", "dcmconv large.dcm older", 0, "", {"older": LARGE}),
+    ("a large file", "dcmconv +ow large.dcm older", 0, "", {"older": LARGE}),
     # words that dcmtools refuses, and those that it answers
     ("an unknown option", "dcmconv +x name.dcm older", 1, "dcmtools: V2 at word 2: unknown option\n", {}),
     ("an option of dcmodify", "dcmconv -f name.dcm older", 1, "dcmtools: V2 at word 2: unknown option\n", {}),
@@ -105,16 +105,16 @@ CASES = [
     ("usage", "dcmconv --help > out && test -s out && rm out", 0, "", {}),
     ("version", "dump2dcm version > out && test -s out && rm out", 0, "", {}),
     ("usage of dcmodify", "dcmodify --help > out && test -s out && rm out", 0, "", {}),
-    ("files with the names of such words", "cp name.dcm help && dcmconv +tb help version", 0, "", {"help": NAME, "version": BIG}),
+    ("files with the names of such words", "cp name.dcm help && dcmconv +ow +tb help version", 0, "", {"help": NAME, "version": BIG}),
     # lines that are built
-    ("lines", "dump2dcm lines older", 0, "", {"older": NAME}),
-    ("lines with a limit", "dump2dcm +l 80 lines older", 0, "", {"older": NAME}),
-    ("a limit between the paths", "dump2dcm lines +l 080 older -e", 0, "", {"older": NAME}),
-    ("lines of standard input", "dump2dcm - older < lines", 0, "", {"older": NAME}),
+    ("lines", "dump2dcm +ow lines older", 0, "", {"older": NAME}),
+    ("lines with a limit", "dump2dcm +ow +l 80 lines older", 0, "", {"older": NAME}),
+    ("a limit between the paths", "dump2dcm +ow lines +l 080 older -e", 0, "", {"older": NAME}),
+    ("lines of standard input", "dump2dcm +ow - older < lines", 0, "", {"older": NAME}),
     ("a path in place of the limit", "dump2dcm +l lines older", 1, "dcmtools: V3 at word 2: bad option value\n", {}),
     ("a limit that is missing", "dump2dcm lines older +l", 1, "dcmtools: V3 at word 4: bad option value\n", {}),
-    ("a file that has the name of the limit", "cp lines 80 && dump2dcm +l 80 80 older", 0, "", {"80": LINES, "older": NAME}),
-    ("bad lines", "dump2dcm bad_lines older", 2, "dcmtools: B5 at byte 60, line 3: tags not ascending\n", {}),
+    ("a file that has the name of the limit", "cp lines 80 && dump2dcm +ow +l 80 80 older", 0, "", {"80": LINES, "older": NAME}),
+    ("bad lines", "dump2dcm +ow bad_lines older", 2, "dcmtools: B5 at byte 60, line 3: tags not ascending\n", {}),
     # OUTPUT is FILE
     ("another path of FILE", "dcmconv name.dcm ./name.dcm", 4, SAME, {}),
     ("a hard link to FILE", "dcmconv name.dcm linked", 4, SAME, {}),
@@ -138,13 +138,13 @@ CASES = [
     ("a part that is a folder", "mkdir out.part; dcmconv name.dcm out; s=$?; rmdir out.part; exit $s", 4, CONVERTED_PART, {}),
     ("a part of a name with a newline", "cp left $'a\\n.part'; dcmconv name.dcm $'a\\n'", 4, UNNAMED_PART, {"a\n.part": LEFT}),
     # symbolic links as OUTPUT
-    ("a link to an older file", "ln -s older link; dcmconv +tb name.dcm link; test -L link && rm link", 0, "", {"older": BIG}),
+    ("a link to an older file", "ln -s older link; dcmconv +ow +tb name.dcm link; test -L link && rm link", 0, "", {"older": BIG}),
     ("a link to no file", "ln -s out link; dcmconv +tb name.dcm link; test -L link && rm link", 0, "", {"out": BIG}),
     ("a link into a folder", "mkdir d; ln -s d/out link; dcmconv +tb name.dcm link; test -L link && rm link", 0, "", {"d/out": BIG}),
-    ("a link and a cut file", "ln -s older link; dcmconv cut link; s=$?; test -L link && rm link; exit $s", 2, CUT, {}),
+    ("a link and a cut file", "ln -s older link; dcmconv +ow cut link; s=$?; test -L link && rm link; exit $s", 2, CUT, {}),
     ("a link to itself", "ln -s link link; dcmconv name.dcm link; s=$?; rm link; exit $s", 4, OUTPUT_UNOPENED, {}),
     ("a link into no folder", "ln -s nowhere/out link; dcmconv name.dcm link; s=$?; rm link; exit $s", 4, OUTPUT_UNOPENED, {}),
-    ("a hard link to an older file", "ln older link; dcmconv +tb name.dcm link", 0, "", {"link": BIG}),
+    ("a hard link to an older file", "ln older link; dcmconv +ow +tb name.dcm link", 0, "", {"link": BIG}),
     # edits
     ("an edit", "dcmodify -m PatientName=Q name.dcm out", 0, "", {"out": REPLACED}),
     ("an edit of an older file", "dcmodify --overwrite -m PatientName=Q name.dcm older", 0, "", {"older": REPLACED}),
@@ -159,11 +159,15 @@ CASES = [
     ("--overwrite alone", "dcmodify --overwrite", 1, PATHS, {}),
     ("DCMTK's -f", "dcmodify -f -m PatientName=Q name.dcm older", 1, PATH_FAULT.format(1), {}),
     ("a path that looks like an option", "dcmodify --overwrite -ep name.dcm -x", 1, PATHS, {}),
-    ("two files in DCMTK's habit", "dcmodify -m PatientName=Q name.dcm older", 1, EXISTS, {}),
+    ("two files in DCMTK's habit", "dcmodify -m PatientName=Q name.dcm older", 4, THERE, {}),
+    ("an older file that stays", "dcmconv name.dcm older", 4, THERE, {}),
+    ("an older file and +ow", "dcmconv +tb name.dcm +ow older", 0, "", {"older": BIG}),
+    ("an older file and +ow among edits", "dcmodify -m PatientName=Q +ow name.dcm older", 0, "", {"older": REPLACED}),
+    ("+ow as a path of an edit", "dcmodify -e +ow name.dcm older", 1, UNKNOWN_TAG, {}),
     ("three files in DCMTK's habit", "dcmodify -m PatientName=Q name.dcm twice.dcm older", 1, PATH_FAULT.format(2), {}),
     ("one file in DCMTK's habit", "dcmodify -m PatientName=Q name.dcm", 1, PATH_FAULT.format(1), {}),
     ("two files and a refused edit", "dcmodify -m Patient=Q name.dcm older", 1, UNKNOWN_TAG, {}),
-    ("two files, of which one is a link", "ln -s older l; dcmodify name.dcm l 2> /dev/null; s=$?; rm l; exit $s", 1, "", {}),
+    ("two files, of which one is a link", "ln -s older l; dcmodify name.dcm l; s=$?; rm l; exit $s", 4, THERE, {}),
     # trees
     ("a tree", f"{TREE}; dcmconv +tb +r in new > rows", 0, "", {"in/a": NAME, "new/a": BIG, "rows": ROWS_OF_TREE.format("written").encode()}),
     ("a part of a tree, with an older output", f"{TREE}; mkdir new; cp left new/a; dcmconv +r in +part 1/1 new > rows", 0, "", {"in/a": NAME, "new/a": LEFT, "rows": ROWS_OF_TREE.format("there").encode()}),
@@ -185,8 +189,7 @@ SIGNALS = (signal.SIGHUP, signal.SIGINT, signal.SIGQUIT, signal.SIGTERM)
 THROUGH = """#!/bin/sh
 folder=${0%/*}
 case ${1-} in
-    dcmodify) shift; exec "$folder/dcmodify" --overwrite "$@" ;;
-    dcmconv | dump2dcm) tool=$1; shift; exec "$folder/$tool" "$@" ;;
+    dcmconv | dcmodify | dump2dcm) tool=$1; shift; exec "$folder/$tool" "$@" ;;
     *) exec "$folder/dcmtools" "$@" ;;
 esac
 """
@@ -328,9 +331,9 @@ def try_mode(place, mode):
     folder = place.folder()
     (folder / "older").chmod(mode)
     before = files_of(folder)
-    done = place.run_tool(folder, "dcmconv", "+tb", "name.dcm", "older")
+    done = place.run_tool(folder, "dcmconv", "+ow", "+tb", "name.dcm", "older")
     wrong = wrong_end(done, 0, "") or wrong_files(before, files_of(folder), {"older": BIG})
-    done = place.run_tool(folder, "dcmconv", "+tb", "cut", "older")
+    done = place.run_tool(folder, "dcmconv", "+ow", "+tb", "cut", "older")
     return wrong or wrong_end(done, 2, CUT) or wrong_files(before, files_of(folder), {"older": BIG})
 
 
@@ -365,7 +368,7 @@ def try_signal(place, number, output, of_group):
     """A signal, to the script or to all that it started, while dcmtools waits for more of its input."""
     folder = place.folder()
     before = files_of(folder)
-    started = place.start(folder, "dcmconv", "queue", output)
+    started = place.start(folder, "dcmconv", "+ow", "queue", output)
     queue = open_queue(folder / "queue")
     if queue is None:
         started.kill()
@@ -421,7 +424,7 @@ def try_killed(place):
     """A limit of the size of a file ends dcmtools by a signal, where nobody has ignored that."""
     folder = place.folder()
     before = files_of(folder)
-    done = place.run(folder, "ulimit -c 0; ulimit -f 1; dcmconv large.dcm older")
+    done = place.run(folder, "ulimit -c 0; ulimit -f 1; dcmconv +ow large.dcm older")
     wrong = "" if done.returncode == 128 + signal.SIGXFSZ else f"status {done.returncode}, {done.stderr!r}"
     return wrong or wrong_files(before, files_of(folder), {})
 
@@ -430,10 +433,10 @@ UNREPLACED = "dcmconv: older cannot be replaced\n"
 
 # Of those who are not root: what it is, what prepares the folder, the words, the line, and the files that change. The status is 4.
 NOBODYS = [
-    ("an OUTPUT without the right to write", "chmod 444 older", "dcmconv name.dcm older", OUTPUT_UNOPENED, {}),
-    ("a folder without that right", "chmod 666 older; chmod 555 .", "dcmconv name.dcm older", OUTPUT_UNOPENED, {}),
+    ("an OUTPUT without the right to write", "chmod 444 older", "dcmconv +ow name.dcm older", OUTPUT_UNOPENED, {}),
+    ("a folder without that right", "chmod 666 older; chmod 555 .", "dcmconv +ow name.dcm older", OUTPUT_UNOPENED, {}),
     ("a FILE without the right to read", "chmod 600 name.dcm", "dcmconv name.dcm older", INPUT_FAILED, {}),
-    ("an OUTPUT of somebody else", "chmod 666 older; chmod 1777 .", "dcmconv name.dcm older", UNREPLACED, {}),
+    ("an OUTPUT of somebody else", "chmod 666 older; chmod 1777 .", "dcmconv +ow name.dcm older", UNREPLACED, {}),
 ]
 
 
@@ -449,7 +452,7 @@ def try_owner(place):
     """An OUTPUT that is replaced keeps its owner."""
     folder = place.folder()
     os.chown(folder / "older", 12345, 12346)
-    done = place.run_tool(folder, "dcmconv", "name.dcm", "older")
+    done = place.run_tool(folder, "dcmconv", "+ow", "name.dcm", "older")
     found = (folder / "older").stat()
     wrong = "" if (found.st_uid, found.st_gid) == (12345, 12346) else f"owner {found.st_uid}:{found.st_gid}"
     return wrong_end(done, 0, "") or wrong
@@ -458,7 +461,7 @@ def try_owner(place):
 def try_without_proc(place):
     folder = place.folder()
     before = files_of(folder)
-    words = "exec unshare -m sh -c 'mount -t tmpfs none /proc && dcmconv +tb name.dcm older && dcmconv +tb - out < name.dcm'"
+    words = "exec unshare -m sh -c 'mount -t tmpfs none /proc && dcmconv +ow +tb name.dcm older && dcmconv +tb - out < name.dcm'"
     return wrong_end(place.run(folder, words), 0, "") or wrong_files(before, files_of(folder), {"older": BIG, "out": BIG})
 
 

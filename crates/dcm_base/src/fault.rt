@@ -92,6 +92,7 @@ pub enum LineFault {
     NoTransferSyntax,
     TooDeep,
     EndsEarly,
+    ByCharacters,
     TooLong,
 }
 
@@ -110,6 +111,7 @@ impl LineFault {
             LineFault::NoTransferSyntax => "B7",
             LineFault::TooDeep => "B8",
             LineFault::EndsEarly => "B9",
+            LineFault::ByCharacters => "B10",
             LineFault::TooLong => "R15",
         }
     }
@@ -128,6 +130,7 @@ impl LineFault {
             LineFault::NoTransferSyntax => "no usable transfer syntax",
             LineFault::TooDeep => "nested too deep",
             LineFault::EndsEarly => "input ends too early",
+            LineFault::ByCharacters => "a dump by characters",
             LineFault::TooLong => "input too long",
         }
     }

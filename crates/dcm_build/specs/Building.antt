@@ -8,7 +8,7 @@ use Rattle.dcm_base.specs.Tables.Syntax.{Little}
 use Rattle.dcm_base.specs.declared.fault.LineFault.{LineFault}
 use Rattle.dcm_base.specs.declared.fault.LineFault.TheVariants.{LineTooLong, NotALine, ValueDoesNotFit, NotAllowed}
 use Rattle.dcm_base.specs.declared.fault.LineFault.TheVariants.{NotAscending, BadMetaGroup, NoTransferSyntax, TooDeep}
-use Rattle.dcm_base.specs.declared.fault.LineFault.TheVariants.{EndsEarly, TooLong}
+use Rattle.dcm_base.specs.declared.fault.LineFault.TheVariants.{EndsEarly, ByCharacters, TooLong}
 use Rattle.dcm_base.specs.Steps.Atoms.{Atom, opens, value_byte, closes_leaf, opens_item, closes_item, closes_sequence}
 use Rattle.dcm_base.specs.Steps.Atoms.{opens_fragment}
 use Rattle.dcm_base.specs.Lines.Build.{named_coding, coding_or_little, allows_fragments, has_place_in, element_tag}
@@ -17,7 +17,7 @@ use Rattle.dcm_base.specs.Lines.Build.{without_return, is_the_top}
 use Rattle.dcm_base.specs.declared.fault.LineStop.{LineStop}
 use Rattle.dcm_base.specs.Bytes.Head.{head_size}
 use Rattle.dcm_base.specs.Lines.Line.{Step, show_leaf, begin_sequence, begin_fragments, begin_item, show_fragment}
-use Rattle.dcm_base.specs.Lines.Line.{end_item, end_sequence, Meaning, nothing, one, no_line, means}
+use Rattle.dcm_base.specs.Lines.Line.{end_item, end_sequence, Meaning, nothing, one, by_characters, no_line, means}
 use Rattle.dcm_base.specs.File.MetaGroup.{META_LIMIT}
 use Rattle.dcm_base.specs.Reading.Reads.{INPUT_LIMIT}
 use Rattle.dcm_base.specs.Reading.Size.{trees_size}
@@ -171,11 +171,13 @@ shows_writes step s = elim (first_fault (group_checks step s)) [
 abbrev pub meaning_taken : Meaning → BuildState → BuildState
 meaning_taken nothing s = s
 meaning_taken (one step) s = shows step s
+meaning_taken by_characters s = tells ByCharacters s
 meaning_taken no_line s = tells NotALine s
 
 abbrev pub meaning_writes : Meaning → BuildState → List ℕ
 meaning_writes nothing s = []
 meaning_writes (one step) s = shows_writes step s
+meaning_writes by_characters s = []
 meaning_writes no_line s = []
 
 -- the next line begins after so many bytes and a newline, unless this one is at fault

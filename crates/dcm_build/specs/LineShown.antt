@@ -23,6 +23,7 @@ step_of SequenceEnd = spec.end_sequence
 abbrev pub meaning_of : Meaning → spec.Meaning
 meaning_of meanings.Nothing = spec.nothing
 meaning_of (meanings.Step step) = spec.one (step_of step)
+meaning_of meanings.ByCharacters = spec.by_characters
 meaning_of meanings.NoLine = spec.no_line
 
 -- whether there is a closing parenthesis that a space or the line's end follows

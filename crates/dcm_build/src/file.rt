@@ -318,6 +318,7 @@ impl NewFile {
         match means(without_return(line)) {
             Meaning::Nothing => Ok(()),
             Meaning::Step(step) => self.take_step(step, out),
+            Meaning::ByCharacters => Err(Stopped::Refused(LineFault::ByCharacters)),
             Meaning::NoLine => Err(Stopped::Refused(LineFault::NotALine)),
         }
     }

@@ -33,6 +33,9 @@ const SEQUENCE: &[u8] = b"(Sequence with";
 /// Where a list of fragments begins.
 const FRAGMENT_LIST: &[u8] = b"(PixelSequence";
 
+/// How a comment ends that says that texts are shown as characters.
+const CHARACTERS_MARK: &[u8] = b"(texts in UTF-8)";
+
 /// Eight spaces, as one number.
 const EIGHT_SPACES: u64 = 0x2020_2020_2020_2020;
 
@@ -54,6 +57,8 @@ pub enum Meaning<'a> {
     /// It is blank, or a comment.
     Nothing,
     Step(Step<'a>),
+    /// It is a comment that says that texts are shown as characters.
+    ByCharacters,
     /// It is no line of a dump.
     NoLine,
 }
@@ -318,13 +323,42 @@ fn parts_meaning(parts: LineParts<'_>) -> Meaning<'_>
     }
 }
 
+/// What precedes the spaces at the end.
+fn without_last_spaces(bytes: &[u8]) -> &[u8]
+    ensures { result.now ≡ spec.without_last_spaces bytes.now }
+{
+    let mut rest = bytes;
+    while let [before @ .., b' '] = rest {
+        rest = before;
+    }
+    rest
+}
+
+/// Whether a comment says that texts are shown as characters.
+fn is_marked(line: &[u8]) -> bool
+    ensures { result ≡ spec.is_marked line.now }
+{
+    without_last_spaces(line).ends_with(CHARACTERS_MARK)
+}
+
+/// What a comment means, or a line of spaces.
+fn comment_meaning(line: &[u8]) -> Meaning<'_>
+    ensures { shown.meaning_of result ≡ spec.comment_meaning line.now }
+{
+    if is_marked(line) {
+        Meaning::ByCharacters
+    } else {
+        Meaning::Nothing
+    }
+}
+
 /// What one line means, without its newline and a carriage return before it.
 pub fn means<'a>(line: &'a [u8]) -> Meaning<'a>
     ensures { shown.meaning_of result ≡ spec.means line.now }
 {
     let text = without_spaces(line);
     if is_end(text) {
-        return Meaning::Nothing;
+        return comment_meaning(line);
     }
     match parts(text) {
         Some(parts) => parts_meaning(parts),

@@ -1,10 +1,12 @@
 -- A call halts with a fault exactly where the bytes before it and its piece are not undecided.
 use Rattle.std.proofs.Common.{◌≡◌, ◌∙◌, ap, sym, refl, subst, ℕ, ◌+◌, ◌≤◌, ◌<◌, ◌==◌, List, [], ◌∷◌, ◌++◌, length, length-append, append_assoc, cond, Option, Some, None, Bool, true, false, ◌⊎◌, ◌↔◌, inl, inr, arith}
-use Rattle.std.specs.Prelude.{fold, nat_le, nat_lt}
+use Rattle.std.specs.Prelude.{fold, nat_lt}
 use Rattle.std.specs.Str.{byte}
-use Rattle.std.proofs.lemmas.Bool.{cases_Bool, lt-ltb, leb-true}
+use Rattle.std.proofs.lemmas.Bool.{lt-ltb}
 use Rattle.std.proofs.lemmas.List.{append-nil}
 use Rattle.std.proofs.lemmas.List.Sums.{fold-append}
+use Rattle.dcm_lemmas.proofs.Numbers.{above_not_within}
+use Rattle.dcm_lemmas.proofs.Options.{none_or_some}
 use Rattle.dcm_base.specs.declared.fault.LineFault.TheVariants.{LineTooLong}
 use Rattle.dcm_base.specs.Lines.Build as build
 use Rattle.dcm_base.specs.Lines.Build.{Lines, lines, more_lines, at_start}
@@ -98,12 +100,6 @@ at_of limit bytes s out (runs p left rest g h c same ended) none =
     }
 at_of limit bytes s out (told_of t e f) none = absurd (let no : Some t ≡ None = sym e ∙ none in cc)
 
-not_cut : (n k : ℕ) → k < n → nat_le n k ≡ false
-not_cut n k e = elim (cases_Bool (nat_le n k)) [
-  | inl t ↦ let l : n ≤ k = leb-true n k t in absurd (omega (arith, e, l))
-  | inr f ↦ f
-]
-
 -- one byte more, where no fault was told
 abbrev stepped : Bool → Bool → Bool → BuildState → ℕ → BuildState
 stepped cut ends short s b = cond cut (cut_short s) (cond ends (line_taken s) (cond short (record s { line = s.line ++ b ∷ [] }) (tells LineTooLong s)))
@@ -111,7 +107,7 @@ stepped cut ends short s b = cond cut (cut_short s) (cond ends (line_taken s) (c
 goes_on : (s : BuildState) (b : ℕ) → s.told ≡ None → (b == byte "\n") ≡ false → length s.line < s.limit → s.offset + length s.line < INPUT_LIMIT → build_step s b ≡ record s { line = s.line ++ b ∷ [] }
 goes_on s b none same short within =
     ap (λ (o : Option LineStop). elim o as (λ x. BuildState) [ Some t ↦ s | None ↦ going_step s b ]) none
-    ∙ ap (λ t. stepped t (b == byte "\n") (nat_lt (length s.line) s.limit) s b) (not_cut INPUT_LIMIT (s.offset + length s.line) within)
+    ∙ ap (λ t. stepped t (b == byte "\n") (nat_lt (length s.line) s.limit) s b) (above_not_within INPUT_LIMIT (s.offset + length s.line) within)
     ∙ ap (λ t. stepped false t (nat_lt (length s.line) s.limit) s b) same
     ∙ ap (λ t. stepped false false t s b) (lt-ltb (length s.line) s.limit short)
 
@@ -168,9 +164,6 @@ call_refuses limit before piece =
     subst (λ (s : BuildState). IsTold s.told ↔ (Undecided limit all → ⊥)) (fold-append build_step (build_start limit) before piece)
     (refuses_where (Undecided limit all) (fold build_step (build_start limit) all).told (goes_undecided limit all) (undecided_goes limit all))
 
-both_told : (o : Option LineStop) (t : LineStop) → o ≡ None → o ≡ Some t → ⊥
-both_told o t none some = let no : None ≡ Some t = sym none ∙ some in cc
-
 module _ (limit : ℕ) (bytes : List ℕ) where
   told_here : (t : LineStop) → (fold build_step (build_start limit) bytes).told ≡ Some t → (build.built limit bytes).told ≡ Some t
   told_here t e = subst (λ (bs : List ℕ). (build.built limit bs).told ≡ Some t) (append-nil bytes) (refused limit bytes [] t e).told_is
@@ -181,7 +174,7 @@ module _ (limit : ℕ) (bytes : List ℕ) where
 
   tells_where : (t : LineStop) → ((fold build_step (build_start limit) bytes).told ≡ Some t) ↔ (((build.built limit bytes).told ≡ Some t) × (Undecided limit bytes → ⊥))
   tells_where t = (
-    (λ e. (told_here t e, λ u. both_told (fold build_step (build_start limit) bytes).told t (undecided_goes limit bytes u) e)),
+    (λ e. (told_here t e, λ u. none_or_some (fold build_step (build_start limit) bytes).told t (undecided_goes limit bytes u) e)),
     (λ x. told_by t (fold build_step (build_start limit) bytes).told refl x.0 x.1),
   )
 

@@ -2,6 +2,7 @@
 pub mod DumpLines
 pub mod StepsBuild
 pub mod LinesLead
+pub mod Unmarked
 pub mod MetaBuilds
 pub mod DumpBuilds
 pub mod FilesBuild

@@ -2,3 +2,4 @@
 pub mod Composed
 pub mod Unplaced
 pub mod FoundMasks
+pub mod OneAfterAnother

@@ -16,8 +16,10 @@ pub mod Opens
 pub mod EditPasses
 pub mod DeidentifyPasses
 pub mod Decided
+pub mod Remarked
 pub mod KeyBytes
 pub mod Ended
 pub mod PatientBar
 pub mod FirstSets
 pub mod FirstFiles
+pub mod NamedJobs

@@ -1,5 +1,6 @@
 -- A whole run, on any devices.
 pub mod Ran
+pub mod Finished
 pub mod LinesGrow
 pub mod Sure
 pub mod OneSource

@@ -15,7 +15,7 @@ use Rattle.dcm_base.specs.Conversion.NewMeta.{new_meta}
 use Rattle.dcm_base.specs.Dump.Header.{set_header, meta_header}
 use Rattle.dcm_base.specs.Dump.Dump.{dump_front}
 use Rattle.dcm_sinks.specs.DecodedDump.{decoded_front}
-use Rattle.dcm_sinks.specs.DecodedHeader.{decoded_meta_header, decoded_set_header}
+use Rattle.dcm_sinks.specs.DecodedHeader.{decoded_meta_header, decoded_set_header, decoded_alone_header}
 use Rattle.dcm_sinks.specs.InForce.{EMPTY}
 use Rattle.dcm_base.specs.Conversion.Recode.{recode}
 use Rattle.dcm_head.specs.SyntaxUids.{uid_of_syntax}
@@ -24,6 +24,7 @@ use Rattle.dcm_base.specs.Tables.Fault.{fault_number, fault_text, line_fault_num
 use Rattle.dcm_base.specs.Lines.Build as build
 use Rattle.dcm_base.specs.declared.fault.LineStop.{LineStop}
 use Rattle.dcm_base.specs.Tables.Syntax.{dictionary_of, read_by, coding_by}
+use Rattle.dcm_base.specs.declared.mode.Mode.{Mode}
 use Rattle.dcm_base.specs.declared.dictionary.Dictionary.{Dictionary}
 use Rattle.dcm_base.specs.declared.dictionary.Dictionary.TheVariants.{Extract, Standard}
 use Rattle.dcm_deid.specs.MadeNew.{made_new}
@@ -31,8 +32,13 @@ use Rattle.dcm_deid.specs.declared.fate.Options.{Options}
 use Rattle.dcm_deid.specs.Meta.{meta_without_identity}
 use Rattle.dcm_deid.specs.Pixels.{may_show}
 use Rattle.dcm_deid.specs.Saying.{deidentified, whole_of}
-use Rattle.dcm_words.specs.Words.{Job, dump, dump_decoded, convert, build as building, modify, deidentify}
+use Rattle.dcm_words.specs.Words.{Job, dump, dump_decoded, dump_named, Named, convert, build as building, modify, deidentify}
+use Rattle.dcm_words.specs.declared.job.Texts.{Texts}
+use Rattle.dcm_words.specs.declared.job.Texts.TheVariants.{Bytes, Characters}
+use Rattle.dcm_named.specs.Laws.{asked}
+use Rattle.dcm_named.specs.Named.{Asked, Texts as NamedTexts, by_bytes, by_characters, named_set, named_front}
 use Rattle.dcm_cli.specs.ErrorLines.{error_line, pixels_line, unplaced_line}
+use Rattle.dcm_cli.specs.Remarks.{remark_lines, remarks_at}
 use Rattle.dcm_cli.specs.Status.{DONE, FAULT, REMARK}
 
 -- an answer
@@ -58,6 +64,7 @@ target_syntax (Some syntax) coding = read_by (dictionary_of coding.syntax) synta
 abbrev pub job_dictionary : Job → Dictionary
 job_dictionary (dump d mode bare) = d
 job_dictionary (dump_decoded d mode bare) = d
+job_dictionary (dump_named texts d mode bare named) = d
 job_dictionary (convert d target) = d
 job_dictionary (building limit) = Extract
 job_dictionary (modify d edits) = d
@@ -113,9 +120,18 @@ pub record AloneReads (syntax : Syntax) (bytes : List ℕ) (source : Source) : T
 abbrev pub InputReads : Job → List ℕ → Source → Type 0
 InputReads (dump d mode (Some syntax)) bytes source = AloneReads (read_by d syntax) bytes source
 InputReads (dump_decoded d mode (Some syntax)) bytes source = AloneReads (read_by d syntax) bytes source
+InputReads (dump_named texts d mode (Some syntax) named) bytes source = AloneReads (read_by d syntax) bytes source
 InputReads job bytes source = FileReads job bytes source
 
 -- ---- what is written of it
+
+-- of named elements, by how texts are shown
+abbrev pub texts_named : Texts → NamedTexts
+texts_named Bytes = by_bytes
+texts_named Characters = by_characters
+
+abbrev pub asked_of : Texts → Dictionary → Mode → Named → Asked
+asked_of texts d mode named = asked (texts_named texts) named.tags named.ways d mode
 
 -- a file in a transfer syntax
 abbrev pub written_file : List ℕ → Syntax → Meta → Front → List ℕ
@@ -127,6 +143,8 @@ file_output (dump d mode bare) m coding set = meta_header d mode m.elements ++ s
     ++ dump_front d mode 0 set
 file_output (dump_decoded d mode bare) m coding set = decoded_meta_header d mode m.elements ++ decoded_set_header m.uid
     ++ decoded_front d mode EMPTY 0 set
+file_output (dump_named texts d mode bare named) m coding set =
+    named_set (asked_of texts d mode named) EMPTY [] m.elements ++ named_front (asked_of texts d mode named) EMPTY [] set
 file_output (convert d target) m coding set = written_file (target_uid target m) (target_syntax target coding) m set
 file_output (modify d edits) m coding set = written_file m.uid coding.syntax m (edited edits set)
 file_output (deidentify options reports key) m coding set =
@@ -136,8 +154,9 @@ file_output (building limit) m coding set = []
 -- of a data set alone
 abbrev pub alone_output : Job → Syntax → Front → List ℕ
 alone_output (dump d mode bare) syntax set = set_header (uid_of_syntax syntax) ++ dump_front d mode 0 set
-alone_output (dump_decoded d mode bare) syntax set = set_header (uid_of_syntax syntax)
+alone_output (dump_decoded d mode bare) syntax set = decoded_alone_header (uid_of_syntax syntax)
     ++ decoded_front d mode EMPTY 0 set
+alone_output (dump_named texts d mode bare named) syntax set = named_front (asked_of texts d mode named) EMPTY [] set
 alone_output _ syntax set = []
 
 -- of an input, by how it was read
@@ -195,12 +214,12 @@ abbrev pub answer : Job → Source → Answer
 answer job (unopened fault offset) = record { output = []; lines = reading_line fault offset; status = FAULT }
 answer job (file m coding set stop) = record {
   output = output_of job (file m coding set stop);
-  lines = stop_line job set stop;
+  lines = remark_lines (remarks_at job set) ++ stop_line job set stop;
   status = stop_status job set stop;
 }
 answer job (alone syntax set stop) = record {
   output = output_of job (alone syntax set stop);
-  lines = stop_line job set stop;
+  lines = remark_lines (remarks_at job set) ++ stop_line job set stop;
   status = stop_status job set stop;
 }
 
@@ -272,4 +291,6 @@ abbrev pub Sure : Job → List ℕ → List ℕ → Type 0
 Sure (building limit) p out = LinesSure limit p out
 Sure (dump d mode (Some syntax)) p out = AloneSure (dump d mode (Some syntax)) (read_by d syntax) p out
 Sure (dump_decoded d mode (Some syntax)) p out = AloneSure (dump_decoded d mode (Some syntax)) (read_by d syntax) p out
+Sure (dump_named texts d mode (Some syntax) named) p out =
+    AloneSure (dump_named texts d mode (Some syntax) named) (read_by d syntax) p out
 Sure job p out = FileSure job p out

@@ -7,6 +7,7 @@ use Rattle.dcm_base.specs.declared.dictionary.Dictionary.{Dictionary}
 use Rattle.dcm_head.specs.MetaReading.{Reading, group_of}
 use Rattle.dcm_head.specs.Rewriting.{OfElements}
 use Rattle.dcm_words.specs.Words.{Job}
+use Rattle.dcm_cli.specs.declared.ending.Ended.{Ended}
 use Rattle.dcm_cli.specs.declared.ending.Ending.{Ending}
 use Rattle.dcm_cli.specs.declared.rewrite.Opened.{Opened}
 pub use Rattle.dcm_cli.specs.InputCalls.{Reader}
@@ -39,6 +40,12 @@ pub record Works {R W : Type 0} (r : Reader R) (w : Writer W) (job : Job) (befor
   pub unread : pass.TellsUnread (r.has_failed before) (r.has_failed after) ending
   pub failed : pass.TellsOutput (w.has_failed output_before) (w.has_failed output_after) ending
 
+-- with what is remarked of the input
+pub record WorksOn {R W : Type 0} (r : Reader R) (w : Writer W) (job : Job) (before after : R)
+    (output_before output_after : W) (ended : Ended) : Type 0 where
+  pub works : Works r w job before after output_before output_after ended.ending
+  pub remarked : run.RemarkedAs job works.given works.how ended.ending ended.remarks
+
 -- a run of a job: the calls that it made of its input, none once the answer was decided; and what it left, where
 -- neither device had failed. The status says whether one of them failed in it
 pub record Runs {R W : Type 0} (r : Reader R) (w : Writer W) (job : Job) (errors : Change) (before after : R)
@@ -64,6 +71,12 @@ pub record Finishes {R W : Type 0} (r : Reader R) (w : Writer W) (job : Job) (be
   pub contents : w.contents output_after ≡ w.contents written
   pub flushed : run.FlushedAs worked ending (w.has_failed written) (w.has_failed output_after) (w.room output_after)
   pub drained : run.IsWritten worked → w.has_failed output_after ≡ false → w.is_flushed output_after ≡ true
+
+-- with what is remarked of the input
+pub record FinishesOn {R W : Type 0} (r : Reader R) (w : Writer W) (job : Job) (before after : R)
+    (output_before output_after : W) (ended : Ended) : Type 0 where
+  pub finishes : Finishes r w job before after output_before output_after ended.ending
+  pub remarked : run.RemarkedAs job finishes.works.given finishes.works.how finishes.worked ended.remarks
 
 -- ---- the head of a file
 

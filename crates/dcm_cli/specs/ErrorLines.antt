@@ -8,7 +8,8 @@ use Rattle.dcm_devices.specs.Device.{AppendsFront}
 use Rattle.dcm_base.specs.Tables.Fault.{fault_number, fault_text, edit_refusal_number, edit_refusal_text}
 use Rattle.dcm_base.specs.Tables.Fault.{word_fault_number, word_fault_text}
 use Rattle.dcm_words.specs.declared.usage.Usage.{Usage}
-use Rattle.dcm_words.specs.declared.usage.Usage.TheVariants.{AtWord, Whole, InEdit, Memory}
+use Rattle.dcm_words.specs.declared.usage.Usage.TheVariants.{AtWord, Whole, InEdit, InElement, TooManyElements}
+use Rattle.dcm_words.specs.declared.usage.Usage.TheVariants.{Memory}
 use Rattle.dcm_cli.specs.Change.{Change}
 use Rattle.dcm_cli.specs.Status.{MEMORY, USAGE}
 
@@ -46,6 +47,10 @@ usage_line (Whole refusal) = error_line (word_fault_number refusal ++ codes ": "
 usage_line (InEdit refusal edit) =
     error_line (edit_refusal_number refusal ++ codes " in edit " ++ decimal edit ++ codes ": "
     ++ edit_refusal_text refusal)
+usage_line (InElement refusal element) =
+    error_line (edit_refusal_number refusal ++ codes " in element " ++ decimal element ++ codes ": "
+    ++ edit_refusal_text refusal)
+usage_line TooManyElements = error_line (codes "V12: more than 64 elements")
 usage_line Memory = error_line (codes "out of memory")
 
 -- the status of words that are refused
@@ -65,6 +70,10 @@ irregular_line = error_line (codes "input is no regular file")
 -- the output is the input
 abbrev pub same_line : List ℕ
 same_line = error_line (codes "output is the input")
+
+-- the output holds bytes, and is not to be overwritten
+abbrev pub there_line : List ℕ
+there_line = error_line (codes "output is there already")
 
 -- what is written until the output is whole is there
 abbrev pub part_line : List ℕ
@@ -86,6 +95,14 @@ output_line = error_line (codes "output failed")
 -- a value that was written says that pixels show identity
 abbrev pub pixels_line : List ℕ
 pixels_line = error_line (codes "pixels may show identity")
+
+-- dates that were moved have nothing left
+abbrev pub emptied_line : ℕ → List ℕ
+emptied_line count = error_line (decimal count ++ codes " dates are emptied")
+
+abbrev pub emptied_lines : (count : ℕ) → List ℕ
+emptied_lines zero = []
+emptied_lines (suc n) = emptied_line (suc n)
 
 -- the key cannot be opened, or cannot be read
 abbrev pub key_line : (was_opened : Bool) → List ℕ

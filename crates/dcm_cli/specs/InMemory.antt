@@ -1,14 +1,15 @@
 -- What a run over memory leaves, where there is room for the answer, and what words come to over files in memory.
-use Rattle.std.specs.Prelude.{◌≡◌, ◌≤◌, ◌⊎◌, ◌==◌, ◌||◌, ◌&&◌, not, nat_le, ℕ, List, [], ◌++◌, length, bytes_eq}
+use Rattle.std.specs.Prelude.{◌≡◌, ◌≤◌, ◌⊎◌, ◌==◌, ◌||◌, ◌&&◌, not, nat_le, nat_lt, ℕ, List, [], ◌++◌, length, bytes_eq}
 use Rattle.std.specs.Prelude.{if◌then◌else◌, Bool, true, false, Option, None, Some, Result, Ok, Err}
-use Rattle.std.specs.Option.{option_map, is_some}
+use Rattle.std.specs.Option.{option_map, option_or, is_some}
 use Rattle.std.specs.Str.{is_utf8}
 use Rattle.dcm_files.specs.Devices.{standard}
 use Rattle.dcm_files.specs.Memory.{file_named}
+use Rattle.dcm_files.specs.declared.memory.MemFile.{MemFile}
 use Rattle.dcm_files.specs.Part.{part_of, is_short}
 use Rattle.dcm_files.specs.declared.memory.MemSystem.{MemSystem}
 use Rattle.dcm_files.specs.declared.opened.Unopened.{Unopened}
-use Rattle.dcm_files.specs.declared.opened.Unopened.TheVariants.{Output as OfOutput, Part}
+use Rattle.dcm_files.specs.declared.opened.Unopened.TheVariants.{Output as OfOutput, Same, There, Part}
 use Rattle.dcm_devices.specs.Memory.{written, room_of}
 use Rattle.dcm_devices.specs.declared.memory.MemOut.{MemOut}
 use Rattle.dcm_words.specs.declared.topic.Topic.{Topic}
@@ -28,7 +29,7 @@ use Rattle.dcm_cli.specs.Days.{no_days_line, no_days_status}
 use Rattle.dcm_cli.specs.First.{FirstReads}
 use Rattle.dcm_cli.specs.Keys.{LEAST_OF_KEY, MOST_OF_KEY, no_key_line, no_key_status}
 use Rattle.dcm_cli.specs.Answer.{Answer, Answers}
-use Rattle.dcm_cli.specs.ErrorLines.{usage_line, usage_status, open_line, same_line}
+use Rattle.dcm_cli.specs.ErrorLines.{usage_line, usage_status, open_line}
 use Rattle.dcm_cli.specs.Program.{unopened_line, unopened_status}
 use Rattle.dcm_cli.specs.Status.{DEVICE, DONE}
 
@@ -70,10 +71,6 @@ bytes_at s path =
     else if is_utf8 path then option_map (λ f. f.bytes.now) (file_named s.files.now path)
     else None
 
--- whether a path can be written: standard output can, and each path that is a text
-abbrev pub is_writable : (path : List ℕ) → Bool
-is_writable path = bytes_eq path standard || is_utf8 path
-
 -- the number of the file at a path, if there is one
 abbrev pub number_at : MemSystem → (path : List ℕ) → Option ℕ
 number_at s path = if bytes_eq path standard then None else option_map (λ f. f.number) (file_named s.files.now path)
@@ -91,25 +88,46 @@ shown topic = record { output = holds (text topic); lines = []; status = DONE }
 abbrev pub refused : Usage → Outcome
 refused u = record { output = no_output; lines = usage_line u; status = usage_status u }
 
--- the input or the output cannot be opened
-abbrev pub not_opened : (is_output : Bool) → Outcome
-not_opened is_output = record { output = no_output; lines = open_line is_output; status = DEVICE }
-
--- both are one file: the output is closed, and nothing was written
-abbrev pub same_file : Outcome
-same_file = record { output = holds []; lines = same_line; status = DEVICE }
+-- the input cannot be opened
+abbrev pub not_opened : Outcome
+not_opened = record { output = no_output; lines = open_line false; status = DEVICE }
 
 -- a job was answered
 abbrev pub answered : Answer → Outcome
 answered a = record { output = holds a.output; lines = a.lines; status = a.status }
 
--- what a job comes to, by the input if it can be read, by whether the output can be written, and by whether they are
--- one file
-abbrev pub JobComes : (input : Option (List ℕ)) → (can_write is_one : Bool) → Job → Outcome → Type 0
-JobComes None can_write is_one job o = o ≡ not_opened false
-JobComes (Some bytes) false is_one job o = o ≡ not_opened true
-JobComes (Some bytes) true true job o = o ≡ same_file
-JobComes (Some bytes) true false job o = (a : Answer) × Answers job bytes a × (o ≡ answered a)
+-- whether the file at a path holds bytes
+abbrev pub holds_bytes : Option MemFile → Bool
+holds_bytes None = false
+holds_bytes (Some f) = nat_lt 0 (length f.bytes.now)
+
+-- why a file at the path of an output is not written, if it is not: it is the input
+abbrev pub of_input : (is_input : Bool) → Option Unopened
+of_input is_input = if is_input then Some Same else None
+
+-- or it holds bytes, and is not to be overwritten
+abbrev pub stays : (overwrites : Bool) → Option MemFile → Option Unopened
+stays overwrites file = if holds_bytes file && not overwrites then Some There else None
+
+-- why an output is not opened, if it is not: standard output is, and so is a path that is a text, unless one of these
+-- bars it, the first before the second
+abbrev pub unopened : MemSystem → Plan → Option Unopened
+unopened s p =
+    if bytes_eq p.output standard then None
+    else if is_utf8 p.output
+    then option_or (of_input (is_one_file (number_at s p.input) (number_at s p.output)))
+    (stays p.overwrites (file_named s.files.now p.output))
+    else Some OfOutput
+
+-- an output cannot be opened, or is not
+abbrev pub not_begun : Unopened → Outcome
+not_begun why = record { output = no_output; lines = unopened_line why; status = unopened_status why }
+
+-- what a job comes to, by the input if it can be read, and by why the output is not opened, if it is not
+abbrev pub JobComes : (input : Option (List ℕ)) → (why : Option Unopened) → Job → Outcome → Type 0
+JobComes None why job o = o ≡ not_opened
+JobComes (Some bytes) (Some why) job o = o ≡ not_begun why
+JobComes (Some bytes) None job o = (a : Answer) × Answers job bytes a × (o ≡ answered a)
 
 -- ---- identity taken out of a file
 
@@ -128,29 +146,30 @@ abbrev pub key_number : MemSystem → (key : Option (List ℕ)) → Option ℕ
 key_number s None = None
 key_number s (Some path) = number_at s path
 
--- whether an output has the path of a part: it is a text, and not too long
-abbrev pub has_path : (output : List ℕ) → Bool
-has_path output = is_utf8 output && is_short output
-
 -- whether its part is there
 abbrev pub has_part : MemSystem → (output : List ℕ) → Bool
 has_part s output = is_some (file_named s.files.now (part_of output))
 
--- whether it is another file than the input and the key
-abbrev pub is_apart : MemSystem → Plan → Bool
-is_apart s p = not (is_one_file (number_at s p.input) (number_at s p.output))
-    && not (is_one_file (key_number s p.key) (number_at s p.output))
+-- why a file at the path of such an output is not replaced, if it is not: it is the key
+abbrev pub of_key : (is_key : Bool) → Option Unopened
+of_key is_key = if is_key then Some OfOutput else None
 
--- why an output that has its name only once it is whole cannot be written, if it cannot: standard output can
+-- why its part is not made, if it is not: its path is too long, or it is there
+abbrev pub without_part : MemSystem → (output : List ℕ) → Option Unopened
+without_part s output = if is_short output then (if has_part s output then Some Part else None) else Some OfOutput
+
+-- why an output that has its name only once it is whole cannot be written, if it cannot: standard output can, and so can
+-- a path that is a text, unless one of these bars it, each before the next
 abbrev pub unwritten : MemSystem → Plan → Option Unopened
 unwritten s p =
     if bytes_eq p.output standard then None
-    else if has_path p.output && is_apart s p then (if has_part s p.output then Some Part else None)
+    else if is_utf8 p.output
+    then option_or
+    (option_or (of_input (is_one_file (number_at s p.input) (number_at s p.output)))
+    (option_or (of_key (is_one_file (key_number s p.key) (number_at s p.output)))
+    (stays p.overwrites (file_named s.files.now p.output))))
+    (without_part s p.output)
     else Some OfOutput
-
--- such an output cannot be opened
-abbrev pub not_begun : Unopened → Outcome
-not_begun why = record { output = no_output; lines = unopened_line why; status = unopened_status why }
 
 -- its job was answered: it is left where all was done, and standard output always; else it is removed
 abbrev pub ended : (is_stream : Bool) → Answer → Outcome
@@ -163,7 +182,7 @@ ended is_stream a = record {
 -- what a job comes to, by the input if it can be read, and by why such an output cannot be written, if it cannot
 abbrev pub WholeComes : (input : Option (List ℕ)) → (why : Option Unopened) → (is_stream : Bool) → Job → Outcome
     → Type 0
-WholeComes None why is_stream job o = o ≡ not_opened false
+WholeComes None why is_stream job o = o ≡ not_opened
 WholeComes (Some bytes) (Some why) is_stream job o = o ≡ not_begun why
 WholeComes (Some bytes) None is_stream job o = (a : Answer) × Answers job bytes a × (o ≡ ended is_stream a)
 
@@ -211,8 +230,7 @@ DeidentifyComes (Some path) s p options reports o = KeyComes (key_of (bytes_at s
 -- what a plan with this job comes to, over these files
 abbrev pub PlanComesAs : Job → MemSystem → Plan → Outcome → Type 0
 PlanComesAs (deidentify options reports key) s p o = DeidentifyComes p.key s p options reports o
-PlanComesAs job s p o = JobComes (bytes_at s p.input) (is_writable p.output)
-    (is_one_file (number_at s p.input) (number_at s p.output)) job o
+PlanComesAs job s p o = JobComes (bytes_at s p.input) (unopened s p) job o
 
 abbrev pub PlanComes : MemSystem → Plan → Outcome → Type 0
 PlanComes s p o = PlanComesAs p.job s p o

@@ -1,9 +1,11 @@
 pub mod Status
 pub mod Change
 pub mod ErrorLines
+pub mod Remarks
 pub mod Answer
 pub mod Pass
 pub mod SinkPass
+pub mod NamedPass
 pub mod EditPass
 pub mod DeidentifyPass
 pub mod Lines

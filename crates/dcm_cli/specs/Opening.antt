@@ -9,7 +9,7 @@ use Rattle.dcm_devices.specs.Device.{AppendsFront}
 use Rattle.dcm_base.specs.File.MetaReads.{Meta, PREFIX}
 use Rattle.dcm_base.specs.Conversion.NewMeta.{new_meta, renewed}
 use Rattle.dcm_deid.specs.declared.fate.Options.{Options}
-use Rattle.dcm_deid.specs.Meta.{no_preamble, meta_renewing}
+use Rattle.dcm_deid.specs.Meta.{implementation, no_preamble, meta_renewing}
 use Rattle.dcm_base.specs.Tree.Tree.{Trees}
 use Rattle.dcm_base.specs.Tables.Syntax.{coding_by}
 use Rattle.dcm_base.specs.declared.dictionary.Dictionary.{Dictionary}
@@ -55,7 +55,7 @@ unchanged = record { preamble = λ p. p; elements = λ e. e }
 abbrev pub without_identity : Options → (key : List ℕ) → HeadChange
 without_identity options key = record {
   preamble = λ p. no_preamble;
-  elements = renewed (meta_renewing options key);
+  elements = renewed (meta_renewing options key) implementation;
 }
 
 abbrev pub change_by : NewHead → HeadChange

@@ -175,7 +175,7 @@ abbrev pub written : {S : Type 0} → (S → Head → Option Bar) → (S → Ato
 written bars step writes r s read = outputs (steps bars step) (steps_write bars step writes) (r, s) read
 
 -- how the reading of a data set ended, where these bytes of it were read, what was written, and the sink's state, unless
--- a device failed
+-- the output failed
 pub data Ends {S : Type 0} (bars : S → Head → Option Bar) (step : S → Atom → S) (writes : S → Atom → List ℕ)
     (r : Reading) (s : S) (contents_before left : Option (List ℕ)) (s_after : S) (contents_after : Option (List ℕ))
     (read : List ℕ) (ending : Ending) : Type 0 where
@@ -199,6 +199,7 @@ pub data Ends {S : Type 0} (bars : S → Head → Option Bar) (step : S → Atom
       → Ends bars step writes r s contents_before left s_after contents_after read ending
   -- reading failed
   unread : (after_bytes bars step r s read).0.halt ≡ None → ending ≡ Unread (next_offset r + length read)
+      → s_after ≡ (after_bytes bars step r s read).1
       → contents_after ≡ append_known contents_before (written bars step writes r s read)
       → Ends bars step writes r s contents_before left s_after contents_after read ending
   -- the output failed

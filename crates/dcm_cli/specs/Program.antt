@@ -13,8 +13,8 @@ use Rattle.dcm_words.specs.Words.{Job, Plan, meant, deidentify, with_days}
 use Rattle.dcm_words.specs.Plans.{takes_memory}
 use Rattle.dcm_files.specs.declared.opened.Opened.{Opened}
 use Rattle.dcm_files.specs.declared.opened.Unopened.{Unopened}
-use Rattle.dcm_files.specs.declared.opened.Unopened.TheVariants.{Input, Output, Same, Part, Memory}
-use Rattle.dcm_files.specs.Devices.{MayDo, IsCause, OpensDevices}
+use Rattle.dcm_files.specs.declared.opened.Unopened.TheVariants.{Input, Output, Same, There, Part, Memory}
+use Rattle.dcm_files.specs.Devices.{MayDo, Closes, IsCause, OpensDevices}
 use Rattle.dcm_files.specs.Part.{OpensWholeDevices, EndsPart}
 use Rattle.dcm_files.specs.declared.opened.FileKind.{FileKind}
 use Rattle.dcm_deid.specs.declared.fate.Options.{Options}
@@ -23,9 +23,13 @@ use Rattle.dcm_cli.specs.declared.key.KeyRead.{KeyRead}
 use Rattle.dcm_cli.specs.declared.key.NoKey.{NoKey}
 use Rattle.dcm_cli.specs.Days.{TakesDays, no_days_line, no_days_status}
 use Rattle.dcm_cli.specs.Keys.{TakesKey, no_key_line, no_key_status}
-use Rattle.dcm_cli.specs.Calls.{Reader, Runs}
+use Rattle.dcm_cli.specs.declared.ending.Ended.{Ended}
+use Rattle.dcm_cli.specs.declared.ending.Ending.{Ending}
+use Rattle.dcm_cli.specs.declared.ending.Ending.TheVariants.{Worked, Unread, Output as FailedOutput}
+use Rattle.dcm_cli.specs.Calls.{Reader, Runs, FinishesOn}
 use Rattle.dcm_cli.specs.Change.{Change, change_of}
-use Rattle.dcm_cli.specs.ErrorLines.{Reports, usage_line, usage_status, open_line, same_line, part_line, output_line}
+use Rattle.dcm_cli.specs.ErrorLines.{Reports, usage_line, usage_status, open_line, same_line, there_line, part_line, output_line}
+use Rattle.dcm_cli.specs.Run.{ended_lines, ending_status}
 use Rattle.dcm_cli.specs.Status.{DEVICE, DONE, MEMORY}
 
 -- the line that reports why a job was not begun
@@ -33,6 +37,7 @@ abbrev pub unopened_line : Unopened → List ℕ
 unopened_line Input = open_line false
 unopened_line Output = open_line true
 unopened_line Same = same_line
+unopened_line There = there_line
 unopened_line Part = part_line
 unopened_line Memory = usage_line usages.Memory
 
@@ -41,28 +46,45 @@ abbrev pub unopened_status : Unopened → ℕ
 unopened_status Memory = MEMORY
 unopened_status _ = DEVICE
 
--- devices were given back
-pub record GivesBack {S I O : Type 0} (may : MayDo S I O) (input : I) (output : O) (before after : S) : Type 0 where
+-- devices were given back: how the closing of the output went
+pub record GivesBack {S I O : Type 0} (may : MayDo S I O) (input : I) (output : O) (before : S)
+    (closing : Result (Unit {0}) Error) (after : S) : Type 0 where
   pub between : S
-  pub closed : may.closes before output between
+  pub closed : may.closes before output closing between
   pub released : may.releases between input after
 
--- a job was run over these devices, and they were given back exactly as it left them
-pub record RunsOver {S I O : Type 0} (may : MayDo S I O) (r : Reader I) (w : Writer O) (job : Job) (errors : Change)
+-- how a job ended whose output lost bytes as it was closed
+abbrev pub lost : Ending → Ending
+lost (Worked verdict) = FailedOutput
+lost (Unread read) = Unread read
+lost FailedOutput = FailedOutput
+
+abbrev pub with_loss : Ended → Ended
+with_loss ended = record { remarks = ended.remarks; ending = lost ended.ending }
+
+abbrev pub after_closing : Ended → Result (Unit {0}) Error → Ended
+after_closing ended (Ok _) = ended
+after_closing ended (Err e) = with_loss ended
+
+-- a job was run over these devices, and they were given back exactly as it left them. Where the output lost bytes as
+-- it was closed, that is reported as a failure of the output is
+pub data RunsOver {S I O : Type 0} (may : MayDo S I O) (r : Reader I) (w : Writer O) (job : Job) (errors : Change)
     (i : I) (o : O) (before : S) (status : ℕ) (after : S) : Type 0 where
-  pub input : I
-  pub output : O
-  pub run : Runs r w job errors i input o output status
-  pub back : GivesBack may input output before after
+  closed_well : (input : I) (output : O) → Runs r w job errors i input o output status
+      → GivesBack may input output before (Ok _) after → RunsOver may r w job errors i o before status after
+  closed_with_loss : (input : I) (output : O) (ended : Ended) (e : Error)
+      → FinishesOn r w job i input o output ended → GivesBack may input output before (Err e) after
+      → Reports errors (ended_lines (with_loss ended)) → status ≡ ending_status (lost ended.ending)
+      → RunsOver may r w job errors i o before status after
 
 -- the devices of a plan cannot be opened, and that is reported; or its job was run over them. Nothing else was done
 -- with the system
 pub data Works {S I O : Type 0} (may : MayDo S I O) (r : Reader I) (w : Writer O) (p : Plan) (errors : Change)
     (before : S) (status : ℕ) (after : S) : Type 0 where
-  not_opened : (u : Unopened) → OpensDevices may p.input p.output before (Err u) after
+  not_opened : (u : Unopened) → OpensDevices may p.input p.output p.overwrites before (Err u) after
       → Reports errors (unopened_line u) → status ≡ unopened_status u → Works may r w p errors before status after
   has_run : (i : Opened I) (o : Opened O) (has_both : S)
-      → OpensDevices may p.input p.output before (Ok (i, o)) has_both
+      → OpensDevices may p.input p.output p.overwrites before (Ok (i, o)) has_both
       → RunsOver may r w p.job errors i.device o.device has_both status after
       → Works may r w p errors before status after
 
@@ -89,11 +111,11 @@ pub data EndsOutput {S I O : Type 0} (may : MayDo S I O) (output : List ℕ) (ra
 -- ended. The output is not the file that was read earlier
 pub data WorksWhole {S I O : Type 0} (may : MayDo S I O) (r : Reader I) (w : Writer O) (p : Plan) (job : Job)
     (earlier : Option FileKind) (errors : Change) (before : S) (status : ℕ) (after : S) : Type 0 where
-  none_opened : (u : Unopened) → OpensWholeDevices may p.input p.output earlier before (Err u) after
+  none_opened : (u : Unopened) → OpensWholeDevices may p.input p.output p.overwrites earlier before (Err u) after
       → Reports errors (unopened_line u) → status ≡ unopened_status u
       → WorksWhole may r w p job earlier errors before status after
   has_ended : (i : Opened I) (o : Opened O) (has_both has_run : S) (ran : ℕ) (of_run of_end : Change)
-      → OpensWholeDevices may p.input p.output earlier before (Ok (i, o)) has_both
+      → OpensWholeDevices may p.input p.output p.overwrites earlier before (Ok (i, o)) has_both
       → RunsOver may r w job of_run i.device o.device has_both ran has_run
       → EndsOutput may p.output ran of_end has_run status after → Follows errors of_run of_end
       → WorksWhole may r w p job earlier errors before status after
@@ -155,7 +177,7 @@ pub data Shows {S I O : Type 0} (may : MayDo S I O) (w : Writer O) (text : List 
       → status ≡ unopened_status u → Shows may w text errors before status after
   shows : (o : Opened O) (output : O) (has_output : S) → may.stdout before (Ok o) has_output
       → PutsText text (change_of w o.device output) errors status
-      → may.closes has_output output after → Shows may w text errors before status after
+      → Closes may has_output output after → Shows may w text errors before status after
 
 -- the words ask for a text, which is shown; or they are refused, and that is reported, with nothing done with the
 -- system; or what they mean was done

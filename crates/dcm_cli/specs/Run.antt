@@ -1,26 +1,33 @@
 -- What a run leaves.
-use Rattle.std.specs.Prelude.{◌≡◌, ◌⊎◌, ℕ, zero, suc, ◌+◌, ◌*◌, Bool, true, false, List, [], ◌∷◌, ◌++◌, length, Option}
+use Rattle.std.specs.Prelude.{◌≡◌, ◌⊎◌, ℕ, zero, suc, ◌+◌, ◌*◌, Bool, true, false, List, [], ◌∷◌, ◌++◌, length, drop, ◌<◌, Option}
 use Rattle.std.specs.Prelude.{None, Some, if◌then◌else◌, ◌&&◌}
 use Rattle.std.specs.Io.KnownBytes.{append_known}
 use Rattle.dcm_base.specs.Lines.Build as build
 use Rattle.dcm_base.specs.declared.fault.LineStop.{LineStop}
 use Rattle.dcm_devices.specs.Device.{AppendsFront}
 use Rattle.dcm_base.specs.Tree.Front.{Front}
-use Rattle.dcm_base.specs.Reading.Stop.{Stop, complete, refused}
+use Rattle.dcm_base.specs.File.MetaReads as meta
+use Rattle.dcm_base.specs.File.MetaReads.{Meta, MetaReads}
+use Rattle.dcm_base.specs.Reading.Reads.{Reads}
+use Rattle.dcm_base.specs.Reading.Stop.{Stop, complete, refused, is_undecided}
+use Rattle.dcm_base.specs.declared.syntax.Coding.{Coding}
 use Rattle.dcm_edits.specs.Edit.{Edit, found}
 use Rattle.dcm_edits.specs.Meaning.{AreMeant}
 use Rattle.dcm_words.specs.Words.{Job, build as building, modify, deidentify}
+use Rattle.dcm_cli.specs.declared.ending.Ended.{Ended}
 use Rattle.dcm_cli.specs.declared.ending.Ending.{Ending}
+use Rattle.dcm_cli.specs.declared.ending.Remarks.{Remarks}
 use Rattle.dcm_cli.specs.declared.ending.Ending.TheVariants as endings
 use Rattle.dcm_cli.specs.declared.ending.Ending.TheVariants.{Unread, Output}
 use Rattle.dcm_cli.specs.declared.ending.Verdict.{Verdict}
 use Rattle.dcm_cli.specs.declared.ending.Verdict.TheVariants.{Done, PixelsMayShow, Refused, RefusedLine}
 use Rattle.dcm_cli.specs.Answer.{Answer, Source, unopened, file, alone, InputReads, output_of, edits_of, building_line}
-use Rattle.dcm_cli.specs.Answer.{shows_identity}
+use Rattle.dcm_cli.specs.Answer.{HeadIs, job_bar, job_dictionary, set_at, shows_identity}
 use Rattle.dcm_cli.specs.Answer.{Answers, Sure}
 use Rattle.dcm_cli.specs.InputCalls.{How, Allows}
 use Rattle.dcm_cli.specs.Change.{Change}
 use Rattle.dcm_cli.specs.ErrorLines.{Reports, fault_line, pixels_line, unread_line, output_line, mask_lines}
+use Rattle.dcm_cli.specs.Remarks.{no_remarks, remark_lines, remarks_at, remarks_told}
 use Rattle.dcm_cli.specs.Status.{DEVICE, DONE, FAULT, REMARK}
 
 -- the edits of a job are those that some words mean
@@ -91,6 +98,47 @@ pub data Worked (job : Job) (input : List ℕ) (left before after : Option (List
   could_not_write : (out : List ℕ) (verdict : Verdict) → Answered job input out verdict → ending ≡ Output
       → AppendsFront before after out → Worked job input left before after ending
 
+-- ---- what is remarked of an input
+
+abbrev pub source_remarks : Job → Source → Remarks
+source_remarks job (unopened fault offset) = no_remarks
+source_remarks job (file meta coding set stop) = remarks_at job set
+source_remarks job (alone syntax set stop) = remarks_at job set
+
+-- of one that was read
+pub record ReadRemarks (job : Job) (input : List ℕ) (remarks : Remarks) : Type 0 where
+  pub source : Source
+  pub reads : InputReads job input source
+  pub remarks_are : remarks ≡ source_remarks job source
+
+-- no other job remarks anything
+abbrev pub Remarked : Job → (input : List ℕ) → Remarks → Type 0
+Remarked (deidentify options reports key) input remarks = ReadRemarks (deidentify options reports key) input remarks
+Remarked job input remarks = remarks ≡ no_remarks
+
+-- of a beginning of a file: nothing until two bytes have ended its meta group
+pub data FileRemarked (job : Job) (p : List ℕ) (remarks : Remarks) : Type 0 where
+  before_its_set : (a : meta.MetaAnswer) → MetaReads p a → meta.is_undecided (length p) a ≡ true
+      → remarks ≡ no_remarks → FileRemarked job p remarks
+  within_its_set : (m : Meta) (group : List ℕ) (coding : Coding) (set : Front) (stop : Stop)
+      → HeadIs (job_dictionary job) p m group coding → set_at group < length p
+      → Reads (job_bar job coding) coding.syntax (set_at group) (drop (set_at group) p) set stop
+      → is_undecided (Some stop) ≡ true → remarks ≡ remarks_at job set → FileRemarked job p remarks
+
+abbrev pub SoFarRemarked : Job → (p : List ℕ) → Remarks → Type 0
+SoFarRemarked (deidentify options reports key) p remarks = FileRemarked (deidentify options reports key) p remarks
+SoFarRemarked job p remarks = remarks ≡ no_remarks
+
+-- of all inputs that begin with these bytes and may go on so, where no device failed; and of these bytes, where reading
+-- failed after them
+abbrev pub RemarkedAs : Job → (given : List ℕ) → How → Ending → Remarks → Type 0
+RemarkedAs job given how (endings.Worked verdict) remarks =
+    (rest : List ℕ) → Allows how rest → Remarked job (given ++ rest) remarks
+RemarkedAs job given how (Unread read) remarks = SoFarRemarked job given remarks
+RemarkedAs job given how Output remarks = Unit {0}
+
+-- ---- before the output is flushed
+
 -- one output and one verdict are those of all inputs that begin with these bytes and may go on so
 abbrev pub AnsweredAll : Job → (given : List ℕ) → How → (out : List ℕ) → Verdict → Type 0
 AnsweredAll job given how out verdict = (rest : List ℕ) → Allows how rest → Answered job (given ++ rest) out verdict
@@ -128,6 +176,10 @@ ending_lines (endings.Worked verdict) = verdict_lines verdict
 ending_lines (Unread read) = unread_line read
 ending_lines Output = output_line
 
+-- with what is remarked
+abbrev pub ended_lines : Ended → List ℕ
+ended_lines ended = remarks_told ended.ending ended.remarks ++ ending_lines ended.ending
+
 -- the status, by the edits that found no place
 abbrev pub mask_status : ℕ → ℕ
 mask_status zero = DONE
@@ -160,9 +212,10 @@ pub data Ran (job : Job) (given : List ℕ) (how : How) (unread : Bool) (output 
   as_answered : (a : Answer) → AnswersAll job given how a → unread ≡ false → output.failed_after ≡ false
       → output.after ≡ append_known output.before a.output → Reports errors a.lines
       → status ≡ a.status → Ran job given how unread output errors status
-  -- reading failed after these bytes: exactly what is sure of them was written
-  not_read : (out : List ℕ) → unread ≡ true → Sure job given out
-      → output.after ≡ append_known output.before out → Reports errors (unread_line (length given))
+  -- reading failed after these bytes: exactly what is sure of them was written, and what is remarked of them told
+  not_read : (out : List ℕ) (remarks : Remarks) → unread ≡ true → Sure job given out → SoFarRemarked job given remarks
+      → output.after ≡ append_known output.before out
+      → Reports errors (remark_lines remarks ++ unread_line (length given))
       → status ≡ DEVICE → Ran job given how unread output errors status
   -- the output failed: a beginning of it was written, and not all of it, whatever follows these bytes
   not_written : ((rest : List ℕ) → Allows how rest

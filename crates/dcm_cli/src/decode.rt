@@ -11,7 +11,7 @@ use crate::head::{read_head_of, set_start};
 use crate::pass::{read_rest, read_set};
 use dcm_base::{Coding, DeviceIn, DeviceOut, Dictionary, Mode, Syntax, Watched};
 use dcm_head::{Meta, SyntaxUid};
-use dcm_sinks::{DecodedDumpSink, decoded_dump_header, set_header};
+use dcm_sinks::{DecodedDumpSink, decoded_alone_header, decoded_dump_header};
 use dcm_stream::Machine;
 use dcm_words::Dump;
 
@@ -63,7 +63,7 @@ fn decode_set<R: DeviceIn, W: DeviceOut>(
     ensures { calls.Works R.DeviceIn W.DeviceOut (decoded_job dictionary mode (Some syntax)) input.old input.new
         out.old out.new result }
 {
-    if set_header(SyntaxUid::of(syntax).as_bytes(), out).is_err() {
+    if decoded_alone_header(SyntaxUid::of(syntax).as_bytes(), out).is_err() {
         return Ending::Output;
     }
     let coding = Coding {

@@ -8,7 +8,7 @@ ghost use Rattle.dcm_cli.specs.DeidentifyPass as deidentify_pass;
 ghost use Rattle.dcm_cli.specs.Opening as opening;
 ghost use Rattle.dcm_cli.specs.Pass as spec;
 
-use crate::ending::{Ending, Verdict};
+use crate::ending::{Ended, Ending, Remarks, Verdict, remarking_nothing};
 use crate::pass::read_set;
 use crate::rewrite::{NewHead, Opened, PIECE, open_file};
 use dcm_base::{DeviceIn, DeviceOut, Dictionary, Watched};
@@ -36,7 +36,7 @@ fn read_deidentified<R: DeviceIn, S: Sink>(
     input: &mut Watched<R>,
     buffer: &mut [u8],
     sink: &mut S,
-) -> Ending
+) -> Ended
     requires start { opened.start ≤ INPUT_LIMIT }
     requires room { 0 < length buffer.old }
     requires bound { length buffer.old ≤ BUFFER_LIMIT }
@@ -54,7 +54,12 @@ fn read_deidentified<R: DeviceIn, S: Sink>(
         buffer,
         &mut deidentified,
     );
-    with_pixels(ending, what.reports, deidentified.pixels_may_show())
+    let ending = with_pixels(ending, what.reports, deidentified.pixels_may_show());
+    let emptied = deidentified.dates_emptied();
+    Ended {
+        remarks: Remarks { emptied },
+        ending,
+    }
 }
 
 /// How the head of a file is written without identity.
@@ -70,16 +75,16 @@ fn deidentify_file<R: DeviceIn, W: DeviceOut>(
     input: &mut Watched<R>,
     out: &mut Watched<W>,
     buffer: &mut [u8],
-) -> Ending
+) -> Ended
     requires room { 0 < length buffer.old }
     requires bound { length buffer.old ≤ BUFFER_LIMIT }
-    ensures { calls.Works R.DeviceIn W.DeviceOut (deidentify_job what.now.options what.now.reports what.now.key.items)
+    ensures { calls.WorksOn R.DeviceIn W.DeviceOut (deidentify_job what.now.options what.now.reports what.now.key.items)
         input.old input.new out.old out.new result }
 {
     let head = new_head(what);
     let opened = match open_file(Dictionary::Standard, None, &head, input, out, buffer) {
         Ok(opened) => opened,
-        Err(ending) => return ending,
+        Err(ending) => return remarking_nothing(ending),
     };
     let mut sink = EncodeSink::new(out, opened.coding.syntax);
     read_deidentified(what, opened, input, buffer, &mut sink)
@@ -91,8 +96,8 @@ pub fn deidentify<R: DeviceIn, W: DeviceOut>(
     what: &Deidentify,
     input: &mut Watched<R>,
     out: &mut Watched<W>,
-) -> Ending
-    ensures { calls.Works R.DeviceIn W.DeviceOut (deidentify_job what.now.options what.now.reports what.now.key.items)
+) -> Ended
+    ensures { calls.WorksOn R.DeviceIn W.DeviceOut (deidentify_job what.now.options what.now.reports what.now.key.items)
         input.old input.new out.old out.new result }
 {
     let mut buffer = [0u8; PIECE];

@@ -2,13 +2,15 @@
 ghost use Rattle.std.specs.Prelude.{◌≤◌, ◌<◌, length, None, Some};
 ghost use Rattle.dcm_base.specs.declared.mode.Mode.{Mode};
 ghost use Rattle.dcm_base.specs.declared.syntax.Syntax.{Syntax};
-ghost use Rattle.dcm_words.specs.Words.{dump as dump_job, dump_as};
+ghost use Rattle.dcm_words.specs.Plans.{named_as};
+ghost use Rattle.dcm_words.specs.Words.{dump as dump_job, dump_as, dump_of};
 ghost use Rattle.dcm_files.specs.Pieces.{BUFFER_LIMIT};
 ghost use Rattle.dcm_cli.specs.Calls as calls;
 
 use crate::decode::decode_with;
 use crate::ending::{Ending, ending_of_head};
 use crate::head::{read_head_of, set_start};
+use crate::named::named_with;
 use crate::pass::{read_rest, read_set};
 use dcm_base::{Coding, DeviceIn, DeviceOut, Dictionary, Mode, Syntax, Watched};
 use dcm_head::{Meta, SyntaxUid};
@@ -98,10 +100,8 @@ fn dump_by_bytes<R: DeviceIn, W: DeviceOut>(
     }
 }
 
-/// Writes the dump of a file, or of a data set alone, by a reader of heads and a buffer that may have served other
-/// files.
-#[inline(never)]
-pub fn dump_with<R: DeviceIn, W: DeviceOut>(
+/// Writes the dump of a file, or of a data set alone, of all its elements.
+fn dump_all<R: DeviceIn, W: DeviceOut>(
     dump: Dump,
     meta: &mut Meta,
     buffer: &mut [u8],
@@ -119,6 +119,28 @@ pub fn dump_with<R: DeviceIn, W: DeviceOut>(
     }
 }
 
+/// Writes the dump of a file, or of a data set alone, by a reader of heads and a buffer that may have served other
+/// files.
+#[inline(never)]
+pub fn dump_with<R: DeviceIn, W: DeviceOut>(
+    dump: Dump,
+    meta: &mut Meta,
+    buffer: &mut [u8],
+    input: &mut Watched<R>,
+    out: &mut Watched<W>,
+) -> Ending
+    requires room { 0 < length buffer.old }
+    requires bound { length buffer.old ≤ BUFFER_LIMIT }
+    ensures { calls.Works R.DeviceIn W.DeviceOut
+        (dump_of (named_as dump.named) dump.texts dump.dictionary dump.mode dump.bare) input.old input.new out.old
+        out.new result }
+{
+    if dump.named.tags.as_slice().is_empty() {
+        return dump_all(dump, meta, buffer, input, out);
+    }
+    named_with(dump, meta, buffer, input, out)
+}
+
 /// Writes the dump of a file, or of a data set alone.
 #[inline(never)]
 pub fn dump<R: DeviceIn, W: DeviceOut>(
@@ -126,8 +148,9 @@ pub fn dump<R: DeviceIn, W: DeviceOut>(
     input: &mut Watched<R>,
     out: &mut Watched<W>,
 ) -> Ending
-    ensures { calls.Works R.DeviceIn W.DeviceOut (dump_as dump.texts dump.dictionary dump.mode dump.bare) input.old
-        input.new out.old out.new result }
+    ensures { calls.Works R.DeviceIn W.DeviceOut
+        (dump_of (named_as dump.named) dump.texts dump.dictionary dump.mode dump.bare) input.old input.new out.old
+        out.new result }
 {
     let mut buffer = [0u8; PIECE];
     let mut meta = Meta::new();

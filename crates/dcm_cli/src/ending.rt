@@ -1,6 +1,7 @@
 // How the work on a job ends.
 ghost use Rattle.std.specs.Prelude.{◌≡◌};
 ghost use Rattle.dcm_cli.specs.Pass as spec;
+ghost use Rattle.dcm_cli.specs.Remarks as remarks;
 
 use dcm_base::{LineStop, Stop, Stopped};
 use dcm_stream::Halt;
@@ -29,6 +30,27 @@ pub enum Ending {
     Output,
 }
 
+/// What is remarked of an input as far as it was read. It changes no status.
+#[derive(Clone, Copy, Debug, PartialEq, Eq)]
+pub struct Remarks {
+    /// How many dates that were moved have nothing left.
+    pub emptied: u64,
+}
+
+impl Remarks {
+    /// Nothing is.
+    pub const NONE: Remarks = Remarks { emptied: 0 };
+}
+
+/// How the work on a job ended, and what is remarked of its input.
+#[derive(Clone, Copy, Debug, PartialEq, Eq)]
+pub struct Ended {
+    /// What is remarked, unless the output failed.
+    pub remarks: Remarks,
+    /// How the work ended.
+    pub ending: Ending,
+}
+
 /// Why the data set of a file was not reached.
 #[derive(Clone, Copy, Debug, PartialEq, Eq)]
 pub enum HeadEnding {
@@ -46,6 +68,16 @@ pub fn ending_of(answer: Result<(), Halt>) -> Ending
         Ok(()) => Ending::Worked(Verdict::Done { unplaced: 0 }),
         Err(Stopped::Refused(stop)) => Ending::Worked(Verdict::Refused(stop)),
         Err(Stopped::Output) => Ending::Output,
+    }
+}
+
+/// A job ended so, and remarked nothing.
+pub fn remarking_nothing(ending: Ending) -> Ended
+    ensures { result ≡ remarks.remarking_nothing ending }
+{
+    Ended {
+        remarks: Remarks::NONE,
+        ending,
     }
 }
 

@@ -81,6 +81,14 @@ pub fn tell<E: DeviceOut>(usage: &Usage, errors: &mut Watched<E>) -> u8
             let place = [b" in edit ".as_slice(), digits.format(edit).as_bytes()];
             tell_refusal(refusal.number(), &place, refusal.text(), errors);
         }
+        Usage::InElement(refusal, element) => {
+            let place = [
+                b" in element ".as_slice(),
+                digits.format(element).as_bytes(),
+            ];
+            tell_refusal(refusal.number(), &place, refusal.text(), errors);
+        }
+        Usage::TooManyElements => tell_refusal("V12", &[], "more than 64 elements", errors),
         Usage::Memory => {
             tell_line(errors, &[b"dcmtools: out of memory\n".as_slice()]);
             return MEMORY;
@@ -120,6 +128,15 @@ pub fn tell_same<E: DeviceOut>(errors: &mut Watched<E>) -> u8
     ensures status { result ≡ statuses.DEVICE }
 {
     tell_line(errors, &[b"dcmtools: output is the input\n".as_slice()]);
+    DEVICE
+}
+
+/// Reports that the output is there and stays, and answers the status.
+pub fn tell_there<E: DeviceOut>(errors: &mut Watched<E>) -> u8
+    ensures line { calls.Reports E.DeviceOut errors.old errors.new spec.there_line }
+    ensures status { result ≡ statuses.DEVICE }
+{
+    tell_line(errors, &[b"dcmtools: output is there already\n".as_slice()]);
     DEVICE
 }
 
@@ -203,6 +220,24 @@ pub fn tell_pixels<E: DeviceOut>(errors: &mut Watched<E>)
         errors,
         &[b"dcmtools: pixels may show identity\n".as_slice()],
     );
+}
+
+/// Writes how many dates that were moved have nothing left, where there are some.
+pub fn put_emptied<E: DeviceOut>(count: u64, errors: &mut Watched<E>) -> Result<(), WriteFailed>
+    ensures { Wrote E.DeviceOut errors.old errors.new (spec.emptied_lines count) result }
+{
+    if count == 0 {
+        return Ok(());
+    }
+    let mut digits = Buffer::new();
+    put_line(
+        errors,
+        &[
+            b"dcmtools: ".as_slice(),
+            digits.format(count).as_bytes(),
+            b" dates are emptied\n".as_slice(),
+        ],
+    )
 }
 
 /// Reports that the key cannot be opened or read, and answers the status.

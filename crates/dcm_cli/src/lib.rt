@@ -41,6 +41,7 @@ pub mod key;
 /// Laws of the definitions.
 pub mod laws;
 mod modify;
+mod named;
 /// A data set, out of a device into a sink.
 pub mod pass;
 mod program;

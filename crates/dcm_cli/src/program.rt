@@ -11,13 +11,13 @@ ghost use Rattle.dcm_cli.specs.Program as spec;
 ghost use Rattle.dcm_cli.specs.Status as statuses;
 
 use crate::days::{NoDays, take_days};
-use crate::ending::{Ending, Verdict};
+use crate::ending::{Ended, Ending, Verdict};
 use crate::error_lines::{
     tell, tell_fault, tell_irregular, tell_key, tell_open, tell_output, tell_part, tell_same,
-    tell_unread,
+    tell_there, tell_unread,
 };
 use crate::key::{KeyRead, NoKey, take_key};
-use crate::run::{flushed, run, tell_ending};
+use crate::run::{finish, flushed, tell_ended, tell_ending};
 use crate::status;
 use dcm_base::{DeviceOut, Watched, WordFault, put_all};
 use dcm_deid::Options;
@@ -26,6 +26,7 @@ use dcm_files::{
 };
 use dcm_words::{Deidentify, Job, Planned, Topic, Usage, asked, plan, with_days};
 use std::alloc::Global;
+use std::io;
 
 /// How the writing of a text ends.
 const DONE: Ending = Ending::Worked(Verdict::Done { unplaced: 0 });
@@ -39,6 +40,7 @@ pub fn tell_unopened<E: DeviceOut>(unopened: Unopened, errors: &mut Watched<E>) 
         Unopened::Input => tell_open(false, errors),
         Unopened::Output => tell_open(true, errors),
         Unopened::Same => tell_same(errors),
+        Unopened::There => tell_there(errors),
         Unopened::Part => tell_part(errors),
         Unopened::Memory => tell(&Usage::Memory, errors),
     }
@@ -77,6 +79,19 @@ fn tell_no_days<E: DeviceOut>(cause: NoDays, errors: &mut Watched<E>) -> u8
     }
 }
 
+/// How a job ended, after its output was closed: bytes that were lost then are a failure of the output.
+fn after_closing(ended: Ended, closing: &io::Result<()>) -> Ended
+    ensures { result ≡ spec.after_closing ended closing.now }
+{
+    match ended.ending {
+        Ending::Worked(_) if closing.is_err() => Ended {
+            remarks: ended.remarks,
+            ending: Ending::Output,
+        },
+        _ => ended,
+    }
+}
+
 /// Runs a job over its devices, and gives them back.
 fn run_over<S: System, E: DeviceOut>(
     system: &mut S,
@@ -91,10 +106,10 @@ fn run_over<S: System, E: DeviceOut>(
 {
     let mut input = Watched::new(input.device);
     let mut out = Watched::new(output.device);
-    let outcome = run(job, &mut input, &mut out, errors);
-    system.close(out.into_device());
+    let ended = finish(job, &mut input, &mut out);
+    let closing = system.close(out.into_device());
     system.release(input.into_device());
-    outcome.status
+    tell_ended(after_closing(ended, &closing), errors)
 }
 
 /// Opens the devices of a job and runs it. Nothing is read or written where one cannot be opened.
@@ -103,7 +118,7 @@ fn work<S: System, E: DeviceOut>(system: &mut S, planned: &Planned, errors: &mut
         (change_of E.DeviceOut errors.old errors.new) system.old result system.new }
     ensures within { result ≤ statuses.MEMORY }
 {
-    match open_devices(system, planned.input, planned.output) {
+    match open_devices(system, planned.input, planned.output, planned.overwrites) {
         Ok((input, output)) => run_over(system, &planned.job, input, output, errors),
         Err(unopened) => tell_unopened(unopened, errors),
     }
@@ -142,7 +157,13 @@ fn work_whole<S: System, E: DeviceOut>(
         (plans.job_of job.now) earlier (change_of E.DeviceOut errors.old errors.new) system.old result system.new }
     ensures within { result ≤ statuses.MEMORY }
 {
-    match open_whole_devices(system, planned.input, planned.output, earlier) {
+    match open_whole_devices(
+        system,
+        planned.input,
+        planned.output,
+        planned.overwrites,
+        earlier,
+    ) {
         Ok((input, output)) => {
             let ran = run_over(system, job, input, output, errors);
             end_output(system, planned.output, ran, errors)
@@ -263,7 +284,7 @@ fn show<S: System, E: DeviceOut>(system: &mut S, topic: Topic, errors: &mut Watc
     };
     let mut out = Watched::new(output.device);
     let status = put_text(topic.text(), &mut out, errors);
-    system.close(out.into_device());
+    let _ = system.close(out.into_device());
     status
 }
 

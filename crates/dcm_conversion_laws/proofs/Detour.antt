@@ -6,6 +6,7 @@ use Rattle.std.proofs.lemmas.Bool.{cases_lt, eqb-true, eqb-false}
 use Rattle.std.proofs.lemmas.List.{length-take, length-drop, take-append-drop}
 use Rattle.std.proofs.Math.Nat.{mod_self, add-mod_left}
 use mathlib.Core.Logic.{⊎_elim}
+use Rattle.dcm_lemmas.proofs.Lists.{joined_alike}
 use Rattle.dcm_base.specs.declared.tag.Tag.{Tag}
 use Rattle.dcm_base.specs.declared.vr.Vr.{Vr}
 use Rattle.dcm_base.specs.declared.vr.Vr.TheVariants.{SQ, UN}
@@ -21,7 +22,7 @@ use Rattle.dcm_base.specs.Conversion.Recode.{head, even, item_head, item_delimit
 use Rattle.dcm_base.specs.Conversion.Normal.{normal_vr, normal_sequence_vr, normal_value, normal, normal_items}
 use Rattle.dcm_base.proofs.Conversions.Order.{order_twice, turned_cons, turned_short, unit_some}
 use Rattle.dcm_base.proofs.Conversions.OrderLaws.{keeps_length, turned_bytes}
-use Rattle.dcm_base.proofs.Conversions.NormalForm.{evened_size, evened_same, even_even, leaf_size, normal_size}
+use Rattle.dcm_base.proofs.Conversions.NormalForm.{evened_same, even_even, leaf_size, normal_size, fragments_again}
 use Rattle.dcm_conversion_laws.specs.Detour.{KeepsVr, KeepsPad, pad_completes, KeepsForms, ItemsKeep}
 
 -- ---- a byte after units
@@ -129,9 +130,6 @@ turned_back (big_in d) (implicit_in e) t vr p v (inr apart) = back_home d t vr p
 turned_back (big_in d) (little_in e) t vr p v (inl same) = absurd (cc)
 turned_back (big_in d) (little_in e) t vr p v (inr apart) = back_home d t vr p v apart
 
-both : {a b c d : List ℕ} → a ≡ b → c ≡ d → a ++ c ≡ b ++ d
-both p q = cc
-
 leaf_composes : (way target : Syntax) (t : Tag) (vr : Vr) (v : List ℕ) → KeepsVr way target t vr (length v) → KeepsPad way target vr (length v)
     → recoded_leaf target t (normal_vr way t vr (length v)) (normal_value way t vr v) ≡ recoded_leaf target t vr v
 leaf_composes way target t vr v keeps pads =
@@ -140,7 +138,7 @@ leaf_composes way target t vr v keeps pads =
     let x : List ℕ = normal_value way t vr v in
     let size : length x ≡ even n = normal_size way t vr v in
     let same : normal_vr target t w (even n) ≡ normal_vr target t vr n = vr_even target t w n ∙ keeps in
-    both (ap (leaf_head target t w) size ∙ head_same target t w vr n same)
+    joined_alike (ap (leaf_head target t w) size ∙ head_same target t w vr n same)
     (evened_same (pad w) (leaf_bytes target w (length x) x) n (leaf_size target w (length x) x ∙ size)
     ∙ bytes_ordered target t w (length x) x
     ∙ ap (λ (k : ℕ). order target (normal_vr target t w k) x) size
@@ -151,15 +149,6 @@ leaf_composes way target t vr v keeps pads =
 
 -- ---- fragments
 
-fragment_composes : (s : Syntax) (v : List ℕ) → recoded_fragment s (evened 0 v) ≡ recoded_fragment s v
-fragment_composes s v =
-    let size : length (evened 0 v) ≡ even (length v) = evened_size 0 v in
-    both (ap (λ (k : ℕ). item_head s (Known (even k))) size ∙ ap (λ (k : ℕ). item_head s (Known k)) (even_even (length v))) (evened_same 0 (evened 0 v) (length v) size)
-
-fragments_compose : (s : Syntax) (values : List (List ℕ)) → flat_map (recoded_fragment s) (map (evened 0) values) ≡ flat_map (recoded_fragment s) values
-fragments_compose s [] = refl
-fragments_compose s (v ∷ values) = both (fragment_composes s v) (fragments_compose s values)
-
 -- ---- data sets
 
 -- a tree is dropped or stays, as its bytes do
@@ -167,7 +156,7 @@ kept_bytes : (s : Syntax) (t : Tag) (tree : Trees → Trees) (x y : List ℕ) (m
     → recode_set s (tree more) ≡ unless_dropped t x ++ recode_set s more → ((t.element == 0) ≡ false → x ≡ y) → recode_set s more ≡ others
     → recode_set s (if c then more else tree more) ≡ (if c then [] else y) ++ others
 kept_bytes s t tree x y more others true e is same rest = rest
-kept_bytes s t tree x y more others false e is same rest = is ∙ ap (λ (c : Bool). (if c then [] else x) ++ recode_set s more) e ∙ both (same e) rest
+kept_bytes s t tree x y more others false e is same rest = is ∙ ap (λ (c : Bool). (if c then [] else x) ++ recode_set s more) e ∙ joined_alike (same e) rest
 
 mutual
   unfolding normal recode_set KeepsForms
@@ -186,8 +175,8 @@ mutual
   sets_compose way target (fragments t vr values rest) h =
       kept_bytes target t (fragments t vr (map (evened 0) values)) (head target t vr Undefined ++ flat_map (recoded_fragment target) (map (evened 0) values) ++ sequence_delimiter target) (head target t vr Undefined ++ flat_map (recoded_fragment target) values ++ sequence_delimiter target)
       (normal way rest) (recode_set target rest) (t.element == 0) refl
-      refl (λ e. ap (λ (x : List ℕ). head target t vr Undefined ++ x ++ sequence_delimiter target) (fragments_compose target values)) (sets_compose way target rest h)
+      refl (λ e. ap (λ (x : List ℕ). head target t vr Undefined ++ x ++ sequence_delimiter target) (fragments_again target values)) (sets_compose way target rest h)
 
   pub items_compose : (way target : Syntax) (items : Items) → ItemsKeep way target items → recode_items target (normal_items way items) ≡ recode_items target items
   items_compose way target no_item h = refl
-  items_compose way target (item declared set rest) h = both (ap (λ (x : List ℕ). item_head target Undefined ++ x ++ item_delimiter target) (sets_compose way target set h.0)) (items_compose way target rest h.1)
+  items_compose way target (item declared set rest) h = joined_alike (ap (λ (x : List ℕ). item_head target Undefined ++ x ++ item_delimiter target) (sets_compose way target set h.0)) (items_compose way target rest h.1)

@@ -4,6 +4,7 @@ use Rattle.std.specs.Prelude.{bytes_eq, find, if◌then◌else◌, nat_lt, optio
 use Rattle.std.proofs.lemmas.Slice.Eq.{bytes_eq-Decides}
 use Rattle.std.specs.List.{slice_split}
 use Rattle.std.specs.Str.{byte}
+use Rattle.dcm_lemmas.proofs.Lists.{heads_alike, tails_alike}
 use Rattle.dcm_base.specs.declared.dictionary.Dictionary.{Dictionary}
 use Rattle.dcm_base.specs.declared.dictionary.Dictionary.TheVariants.{Extract, Standard, Signed}
 use Rattle.dcm_base.specs.declared.fault.EditRefusal.{EditRefusal}
@@ -16,7 +17,7 @@ use Rattle.dcm_base.specs.Tables.Tag.{tag_number, tag_of_number}
 use Rattle.dcm_base.proofs.Dictionaries.Parts.{extract_is_part}
 use Rattle.dcm_base_laws.proofs.Dictionaries.Unique.{called_back}
 use Rattle.dcm_edits.specs.Edit.{Edit, Index, erase_private}
-use Rattle.dcm_edits.specs.EditWords.{EDIT_LIMIT, InEdit, Kind, Known, OptionWord, PathPart, TagName, and_then, apart, at_edit, by_keyword, by_number, cut_at, edit_of_known, edit_of_parts, has_form, in_edit, known_part, known_parts, known_tag, meant_edit, meant_edits_in, meant_from, meant_word, option_word, or_refuse, parts_of, private_word, takes_value, takes_word, unknown_word, without_dictionary, ◌>>=◌}
+use Rattle.dcm_edits.specs.EditWords.{EDIT_LIMIT, InEdit, Kind, Known, OptionWord, PathPart, TagName, and_then, apart, at_edit, by_keyword, by_number, cut_at, edit_of_known, edit_of_parts, has_form, in_edit, known_part, known_parts, known_tag, meant_edit, meant_edits_in, meant_from, meant_word, option_word, or_refuse, parts_of, private_word, takes_value, takes_word, unknown_word, without_settings, ◌>>=◌}
 
 -- ---- tables
 
@@ -34,12 +35,6 @@ own_numbers : map (λ x. tag_number (own_tag x)) elements ≡ map (λ x. x.0) el
 unfolding elements
 own_numbers = refl
 
-first_alike : {A : Type 0} (x y : A) (xs ys : List A) → x ∷ xs ≡ y ∷ ys → x ≡ y
-first_alike x y xs ys p = cc
-
-rest_alike : {A : Type 0} (x y : A) (xs ys : List A) → x ∷ xs ≡ y ∷ ys → xs ≡ ys
-rest_alike x y xs ys p = cc
-
 -- an element of the extract is called as in the standard
 called_so : (x : Element) → element_in Extract (own_tag x) ≡ said x → tag_number (own_tag x) ≡ x.0 → called (elements_in Standard) x.2 ≡ Some x.0
 unfolding element_in
@@ -55,7 +50,7 @@ module _ (k : List ℕ) (n : ℕ) where
   called_part : (es : List Element) → map (λ x. element_in Extract (own_tag x)) es ≡ map said es → map (λ x. tag_number (own_tag x)) es ≡ map (λ x. x.0) es → called es k ≡ Some n → called (elements_in Standard) k ≡ Some n
   called_part [] all numbers p = absurd cc
   called_part (x ∷ es) all numbers p =
-      called_step (bytes_eq x.2 k) x es (bytes_eq-Decides x.2 k).0 (called_so x (first_alike _ _ _ _ all) (first_alike _ _ _ _ numbers)) (called_part es (rest_alike _ _ _ _ all) (rest_alike _ _ _ _ numbers)) p
+      called_step (bytes_eq x.2 k) x es (bytes_eq-Decides x.2 k).0 (called_so x (heads_alike _ _ _ _ all) (heads_alike _ _ _ _ numbers)) (called_part es (tails_alike _ _ _ _ all) (tails_alike _ _ _ _ numbers)) p
 
 called_alike : (k : List ℕ) (t : Tag) (o : Option ℕ) → called (elements_in Extract) k ≡ o → option_map tag_of_number o ≡ Some t → option_map tag_of_number (called (elements_in Standard) k) ≡ Some t
 unfolding elements_in
@@ -174,4 +169,4 @@ module _ (e : Dictionary) where
   apart_so (Err u) p es h is = absurd (cc)
 
 pub words_agree : (e : Dictionary) (words : List (List ℕ)) (edits : List Edit) → meant_edits_in Extract words ≡ Ok edits → meant_edits_in e words ≡ Ok edits
-words_agree e words edits is = apart_so e (meant_from Extract 1 (without_dictionary words)) (meant_from e 1 (without_dictionary words)) edits (row_so e 1 (without_dictionary words)) is
+words_agree e words edits is = apart_so e (meant_from Extract 1 (without_settings words)) (meant_from e 1 (without_settings words)) edits (row_so e 1 (without_settings words)) is

@@ -1,5 +1,6 @@
 -- A file that is converted by way of another syntax.
 use Rattle.std.proofs.Common.{◌≡◌, ◌∙◌, ap, sym, refl, ℕ, List, ◌++◌, drop, Option, None, Some}
+use Rattle.dcm_base.proofs.DataSets.Alike.{read_by_dictionary}
 use Rattle.dcm_base.specs.declared.dictionary.Dictionary.{Dictionary}
 use Rattle.dcm_base.specs.declared.fault.Fault.{Fault}
 use Rattle.dcm_base.specs.declared.fault.Fault.TheVariants.{CannotChange}
@@ -16,6 +17,7 @@ use Rattle.dcm_base.specs.Reading.Stop.{Stop, complete, refused}
 use Rattle.dcm_base.specs.Tables.Syntax.{dictionary_of, read_by}
 use Rattle.dcm_base.specs.Tree.Front.{Front}
 use Rattle.dcm_sinks.specs.MetaAgain.{meta_again}
+use Rattle.dcm_value.proofs.ReadBack.Units.{bytes_drop}
 use Rattle.dcm_words.specs.Words.{convert, dump}
 use Rattle.dcm_cli.specs.Answer.{Answer, Answers, FileReads, HeadIs, Source, answer, file as a_file, job_bar, not_changed, not_opened, opened, set_at, target_syntax, target_uid, unopened}
 use Rattle.dcm_head.specs.SyntaxUids.{uid_of_syntax}
@@ -23,7 +25,7 @@ use Rattle.dcm_run_laws.specs.ReadsAgain.{IsConverted, target_coding}
 use Rattle.dcm_cli.specs.Status.{DONE, FAULT}
 use Rattle.dcm_cli.proofs.Passes.MetaHeads.{group_spelled}
 use Rattle.dcm_cli.proofs.Runs.OneSource.{one_source}
-use Rattle.dcm_run_laws.proofs.ReadBack.ReadsAgain.{begins_within, converted_reads, read_by_it, read_of, rest_bytes}
+use Rattle.dcm_run_laws.proofs.ReadBack.ReadsAgain.{begins_within, converted_reads, read_of}
 use Rattle.dcm_deid_laws.proofs.NotBarred.{not_barred}
 use Rattle.dcm_conversion_laws.specs.Detour.{FrontKeeps}
 use Rattle.dcm_conversion_laws.proofs.Fronts.{front_composes}
@@ -72,7 +74,7 @@ way_syntax (Some s) coding = refl
 
 way_dictionary : (way : Option Syntax) (coding : Coding) → dictionary_of (target_coding way coding).syntax ≡ dictionary_of coding.syntax
 way_dictionary None coding = refl
-way_dictionary (Some s) coding = read_by_it (dictionary_of coding.syntax) s
+way_dictionary (Some s) coding = read_by_dictionary (dictionary_of coding.syntax) s
 
 module _ (d : Dictionary) (way : Option Syntax) (target : Syntax) (input : List ℕ) (a : Answer) (m : Meta) (coding : Coding) (f : Front) (h : IsConverted d way input a m coding f) (keeps : FrontKeeps (target_syntax way coding) (target_syntax (Some target) coding) f) where
   abbrev uid : List ℕ
@@ -97,7 +99,7 @@ module _ (d : Dictionary) (way : Option Syntax) (target : Syntax) (input : List 
   sets : recode to (normal_front between f) ≡ recode to f
   sets =
       let r = read_of (convert d way) input m coding f h.answers.source h.source_is h.answers.reads in
-      front_composes between to between coding.syntax (set_at r.group) (drop (set_at r.group) input) f (begins_within input m r.group r.head.named r.head.head) (rest_bytes (set_at r.group) input h.are_bytes) r.set keeps
+      front_composes between to between coding.syntax (set_at r.group) (drop (set_at r.group) input) f (begins_within input m r.group r.head.named r.head.head) (bytes_drop (set_at r.group) input h.are_bytes) r.set keeps
 
   groups : new_meta (meta_again m uid).elements (uid_of_syntax target) ≡ new_meta m.elements (uid_of_syntax target)
   groups =

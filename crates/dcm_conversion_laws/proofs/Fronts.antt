@@ -1,8 +1,7 @@
 -- What was read is converted by way of another syntax as it is at once.
-use Rattle.std.proofs.Common.{◌≡◌, ◌∙◌, ap, sym, subst, ℕ, ◌≤◌, List, Option, None, Bool, true, append-nil}
+use Rattle.std.proofs.Common.{◌≡◌, ◌∙◌, ap, sym, subst, ℕ, ◌≤◌, List, Option, Bool, append-nil}
 use Rattle.dcm_base.specs.declared.syntax.Syntax.{Syntax}
 use Rattle.dcm_base.specs.declared.tag.Tag.{Tag}
-use Rattle.dcm_base.specs.Bytes.Spelling.{last_tag}
 use Rattle.dcm_base.specs.Conversion.Normal.{normal, normal_front, whole_front}
 use Rattle.dcm_base.specs.Conversion.Recode.{recode, recode_set}
 use Rattle.dcm_base.specs.Reading.Bars.{no_bar, target_bar}
@@ -13,7 +12,7 @@ use Rattle.dcm_base.specs.Tree.Front.{Front, front, nothing_open}
 use Rattle.dcm_base.specs.Tree.Tree.{Trees}
 use Rattle.dcm_base.proofs.DataSets.OneAnswer.{reads_once}
 use Rattle.dcm_sinks.specs.Conversion.{Converts}
-use Rattle.dcm_sinks.proofs.ReadBack.RecodeReads.{recode_reads, source_whole}
+use Rattle.dcm_sinks.proofs.ReadBack.RecodeReads.{recode_reads, source_whole, whole_recodes}
 use Rattle.dcm_deid_laws.proofs.NotBarred.{not_barred}
 use Rattle.dcm_conversion_laws.specs.Detour.{FrontKeeps}
 use Rattle.dcm_conversion_laws.proofs.Detour.{sets_compose}
@@ -21,9 +20,6 @@ use Rattle.dcm_conversion_laws.proofs.Detour.{sets_compose}
 set_recodes : (s : Syntax) (set : Trees) (reached : Option Tag) (closed : Bool) → recode s (front set nothing_open reached closed) ≡ recode_set s set
 unfolding recode
 set_recodes s set reached closed = append-nil (recode_set s set)
-
-whole_recodes : (s : Syntax) (set : Trees) → recode s (whole_front set) ≡ recode_set s set
-whole_recodes s set = set_recodes s set (last_tag None set) true
 
 whole_composes : (way target : Syntax) (set : Trees) → FrontKeeps way target (whole_front set) → recode target (normal_front way (whole_front set)) ≡ recode target (whole_front set)
 whole_composes way target set h = whole_recodes target (normal way set) ∙ sets_compose way target set h ∙ sym (whole_recodes target set)

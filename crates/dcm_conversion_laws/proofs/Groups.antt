@@ -1,7 +1,7 @@
 -- A meta group that was written with one transfer syntax is written with another one as the group that was read.
-use Rattle.std.proofs.Common.{◌≡◌, ◌∙◌, ap, ℕ, List, [], ◌++◌, length, Bool, true, false, cond, arith, refl}
-use Rattle.std.specs.Prelude.{◌==◌, ◌&&◌}
-use Rattle.std.proofs.lemmas.Bool.Decides.{nat_tests}
+use Rattle.std.proofs.Common.{◌≡◌, ◌∙◌, ap, ℕ, List, [], ◌++◌, length, Bool, true, false, cond, refl}
+use Rattle.std.specs.Prelude.{◌==◌}
+use Rattle.dcm_lemmas.proofs.Lists.{joined_alike}
 use Rattle.dcm_base.specs.Tables.Syntax.{Little}
 use Rattle.dcm_base.specs.Tables.Tag.{is_tag}
 use Rattle.dcm_base.specs.declared.tag.Tag.{Tag}
@@ -13,10 +13,8 @@ use Rattle.dcm_base.specs.Conversion.Normal.{normal, normal_value, normal_vr}
 use Rattle.dcm_base.specs.Conversion.Recode.{recode_set, recoded_leaf}
 use Rattle.dcm_base.specs.Tree.Tree.{Trees, no_tree, leaf, sequence, fragments}
 use Rattle.dcm_base.proofs.Conversions.NormalForm.{leaf_again}
+use Rattle.dcm_run_laws.proofs.ReadBack.ModifiedTwice.{never}
 use Rattle.dcm_sinks.specs.MetaAgain.{elements_again}
-
-both : {a b c d : List ℕ} → a ≡ b → c ≡ d → a ++ c ≡ b ++ d
-both p q = cc
 
 -- an element that is read again is written alike, and a group length is dropped, by a change of the elements that keeps this one
 module _ (t : Tag) (vr : Vr) (v : List ℕ) where
@@ -33,7 +31,7 @@ module _ (t : Tag) (vr : Vr) (v : List ℕ) where
   kept change more others false e is h =
       ap (recode_set Little) is
       ∙ ap (λ (d : Bool). cond d [] (recoded_leaf Little t read_vr read_value) ++ recode_set Little (change more)) e
-      ∙ both (leaf_again Little t vr v) h
+      ∙ joined_alike (leaf_again Little t vr v) h
 
   without_at : (rest : Trees) (c : Bool) → is_tag 2 0x10 t ≡ c → recode_set Little (without_syntax (normal Little (without_syntax rest))) ≡ recode_set Little (without_syntax rest)
       → recode_set Little (without_syntax (normal Little (cond c (without_syntax rest) (leaf t vr v (without_syntax rest))))) ≡ recode_set Little (cond c (without_syntax rest) (leaf t vr v (without_syntax rest)))
@@ -49,12 +47,6 @@ without_twice no_tree m = refl
 without_twice (leaf t vr v rest) m = without_at t vr v rest (is_tag 2 0x10 t) refl (without_twice rest m.1)
 without_twice (sequence t vr declared items rest) m = absurd m
 without_twice (fragments t vr values rest) m = absurd m
-
--- the element that names the transfer syntax is no group length
-never : (n : ℕ) (a b : Bool) → (n == 16) ≡ b → (a && b) ≡ true → (n == 0) ≡ true → ⊥
-never n true true e h z = let named : n ≡ 16 = grind (arith, nat_tests, e) in let dropped : n ≡ 0 = grind (arith, nat_tests, z) in omega (arith, named, dropped)
-never n true false e h z = cc
-never n false b e h z = cc
 
 module _ (uid other : List ℕ) (t : Tag) (rest : Trees) (same : recode_set Little (without_syntax (normal Little (without_syntax rest))) ≡ recode_set Little (without_syntax rest)) where
   abbrev more : Trees

@@ -1,5 +1,7 @@
 -- What jobs answer to an explicit file that says of itself what it holds, by each dictionary.
 use Rattle.std.proofs.Common.{◌≡◌, ◌∙◌, ap, sym, subst, refl, ℕ, ◌≤◌, List, [], ◌++◌, drop, Option, None, Some, true, arith, inl, inr, ◌⊎◌}
+use Rattle.dcm_base.proofs.DataSets.After.{read_by_twice}
+use Rattle.dcm_base.proofs.DataSets.Alike.{read_by_dictionary}
 use Rattle.dcm_base.specs.declared.dictionary.Dictionary.{Dictionary}
 use Rattle.dcm_base.specs.declared.dictionary.Dictionary.TheVariants.{Extract}
 use Rattle.dcm_base.specs.declared.fault.Fault.{Fault}
@@ -22,20 +24,18 @@ use Rattle.dcm_base.specs.Reading.Stop.{Bar, Stop, complete, refused}
 use Rattle.dcm_base.specs.Tables.Syntax.{Little, coding_by, read_by}
 use Rattle.dcm_base.specs.Tree.Front.{Front, front, OpenItem, OpenTree, no_open_item, nothing_open, open_fragments, open_item, open_leaf, open_sequence}
 use Rattle.dcm_base.proofs.Conversions.NormalForm.{items_by, recode_by}
+use Rattle.dcm_conversion_laws.proofs.Kept.{explicit_by}
 use Rattle.dcm_edits.specs.Edit.{Edit, edited}
+use Rattle.dcm_sinks.proofs.DecodedDumps.PlainTexts.{both_lines}
 use Rattle.dcm_words.specs.Words.{Job, convert, dump, modify}
 use Rattle.dcm_cli.specs.Answer.{AloneReads, Answer, Answers, FileReads, HeadIs, InputReads, Source, alone, answer, file as a_file, job_bar, job_dictionary, not_changed, not_opened, opened, output_of, reading_line, refuses_change, set_at, stop_line, stop_status, target_syntax, target_uid, unopened}
 use Rattle.dcm_head.specs.SyntaxUids.{uid_of_syntax}
 use Rattle.dcm_cli.proofs.Runs.OneAnswer.{one_answer}
-use Rattle.dcm_run_laws.proofs.ReadBack.ReadsAgain.{begins_within, read_by_it, read_twice}
+use Rattle.dcm_run_laws.proofs.ReadBack.ReadsAgain.{begins_within}
 use Rattle.dcm_conversion_laws.specs.Agree.{FrontSays, LinesSo, SourceSays, StopsSo}
-use Rattle.dcm_conversion_laws.proofs.Plain.{explicit_too}
 use Rattle.dcm_conversion_laws.proofs.Readings.{ascending_agree, readings_agree}
 
 -- ---- what is written depends on no dictionary
-
-two_alike : (a b x y : List ℕ) → a ≡ b → x ≡ y → a ++ x ≡ b ++ y
-two_alike a b x y e f = cc
 
 opened_alike : (t : Tag) (before a b x y : List ℕ) → a ≡ b → x ≡ y → unless_dropped t (before ++ a ++ x) ≡ unless_dropped t (before ++ b ++ y)
 opened_alike t before a b x y e f = cc
@@ -44,7 +44,7 @@ mutual
   unfolding recode
 
   front_by : (e : Dictionary) (s : Syntax) (f : Front) → recode (read_by e s) f ≡ recode s f
-  front_by e s (front whole last reached closed) = two_alike _ _ _ _ (recode_by e s whole) (open_by e s last)
+  front_by e s (front whole last reached closed) = both_lines _ _ _ _ (recode_by e s whole) (open_by e s last)
 
   open_by : (e : Dictionary) (s : Syntax) (o : OpenTree) → recode_open (read_by e s) o ≡ recode_open s o
   open_by e s nothing_open = refl
@@ -71,9 +71,9 @@ written_by : (e : Dictionary) (s k : Syntax) (f : Front) → k ≡ read_by e s �
 written_by e s k f to = ap (λ (x : Syntax). recode x f) to ∙ front_by e s f
 
 to_by : (e : Dictionary) (target : Option Syntax) (named : Coding) → target_syntax target (coding_by e named) ≡ read_by e (target_syntax target (coding_by Extract named))
-to_by e None named = sym (read_twice e Extract named.syntax)
+to_by e None named = sym (read_by_twice e Extract named.syntax)
 to_by e (Some s) named =
-    ap (λ (d : Dictionary). read_by d s) (read_by_it e named.syntax) ∙ sym (read_twice e Extract s) ∙ ap (λ (d : Dictionary). read_by e (read_by d s)) (sym (read_by_it Extract named.syntax))
+    ap (λ (d : Dictionary). read_by d s) (read_by_dictionary e named.syntax) ∙ sym (read_by_twice e Extract s) ∙ ap (λ (d : Dictionary). read_by e (read_by d s)) (sym (read_by_dictionary Extract named.syntax))
 
 -- ---- one file, read by both
 
@@ -110,7 +110,7 @@ module _ (Near : Stop → Stop → Type 0) (e : Dictionary) (job : Dictionary �
       let named : Coding = h.named in
       let c : coding ≡ coding_by Extract named = named_by m group coding h in
       let bytes : List ℕ = drop (set_at group) input in
-      let explicit : is_explicit named.syntax ≡ true = sym (explicit_too Extract named.syntax) ∙ sym (ap (λ (x : Coding). is_explicit x.syntax) c) ∙ own.0 in
+      let explicit : is_explicit named.syntax ≡ true = sym (explicit_by Extract named.syntax) ∙ sym (ap (λ (x : Coding). is_explicit x.syntax) c) ∙ own.0 in
       let first = subst (λ (x : Coding). Reads (job_bar (job Extract) x) x.syntax (set_at group) bytes f stop) c reads in
       let other = k.sets named (set_at group) bytes f stop (begins_within input m group named h.head) explicit first own.1 in (
         a_file m (coding_by e named) f other.0,
@@ -232,7 +232,7 @@ dump_read e mode None input source reads says = read_so SameStop e (λ d. dump d
 dump_read e mode (Some s) input source reads says =
     let r : AloneReads (read_by Extract s) input source = reads in
     let own : (is_explicit (read_by Extract s) ≡ true) × FrontSays e r.set = subst (SourceSays e) r.source_is says in
-    let other = readings_agree e Little s 0 input r.set r.stop (omega arith) (sym (explicit_too Extract s) ∙ own.0) r.reads own.1 in
+    let other = readings_agree e Little s 0 input r.set r.stop (omega arith) (sym (explicit_by Extract s) ∙ own.0) r.reads own.1 in
     (alone (read_by e s) r.set r.stop, record { set = r.set; stop = r.stop; reads = other; source_is = refl }, by_itself s r.set r.stop r.source_is refl)
 
 dump_answer : (d : Dictionary) (mode : Mode) (bare : Option Syntax) (input : List ℕ) (source : Source) → InputReads (dump d mode bare) input source → Answers (dump d mode bare) input (answer (dump d mode bare) source)
@@ -278,7 +278,7 @@ module _ (e : Dictionary) (edits : List Edit) where
   edited_so : (m : Meta) (named : Coding) (f : Front) (stop other : Stop) → StopsSo stop other → ModifiedSo (answer (modify Extract edits) (a_file m (coding_by Extract named) f stop)) (answer (modify e edits) (a_file m (coding_by e named) f other))
   edited_so m named f stop other near =
       let so = stops_so f stop other near in
-      (ap (λ (out : List ℕ). m.preamble ++ PREFIX ++ new_meta m.elements m.uid ++ out) (written_by e (read_by Extract named.syntax) (read_by e named.syntax) (edited edits f) (sym (read_twice e Extract named.syntax))), so.0, so.1)
+      (ap (λ (out : List ℕ). m.preamble ++ PREFIX ++ new_meta m.elements m.uid ++ out) (written_by e (read_by Extract named.syntax) (read_by e named.syntax) (edited edits f) (sym (read_by_twice e Extract named.syntax))), so.0, so.1)
 
   modified_through : (x y p q : Source) → x ≡ p → y ≡ q → ModifiedSo (answer (modify Extract edits) p) (answer (modify e edits) q) → ModifiedSo (answer (modify Extract edits) x) (answer (modify e edits) y)
   modified_through x y p q i j h =

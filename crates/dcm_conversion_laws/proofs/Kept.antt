@@ -1,6 +1,8 @@
 -- Which ways lose nothing.
 use Rattle.std.proofs.Common.{◌≡◌, ◌∙◌, ap, refl, ℕ, ◌%◌, length, Bool, true, false, not, inl, inr, ◌⊎◌}
 use Rattle.std.specs.Prelude.{◌==◌, ◌&&◌, if◌then◌else◌, nat_lt}
+use Rattle.dcm_deid_laws.proofs.Instance.{big_by}
+use Rattle.dcm_lemmas.proofs.Truth.{and_false}
 use Rattle.dcm_base.specs.declared.dictionary.Dictionary.{Dictionary}
 use Rattle.dcm_base.specs.declared.syntax.Syntax.{Syntax}
 use Rattle.dcm_base.specs.declared.syntax.Syntax.TheVariants.{Implicit as implicit_in, Little as little_in, Big as big_in}
@@ -30,25 +32,16 @@ vr_kept (little_in d) (big_in x) t vr n e = unknown_again vr n (not (is_long vr)
 vr_kept (big_in d) (little_in x) t vr n e = unknown_again vr n (not (is_long vr) && nat_lt 65534 (even n)) refl
 vr_kept (big_in d) (big_in x) t vr n e = unknown_again vr n (not (is_long vr) && nat_lt 65534 (even n)) refl
 
-never : (a : Bool) → (a && false) ≡ false
-never true = refl
-never false = refl
-
 nothing_completed : (vr : Vr) (n : ℕ) → (n % 2 == 0) ≡ true → pad_completes vr n ≡ false
-nothing_completed vr n e = ap (λ (c : Bool). both_hold (not (unit vr == 1)) (both_hold (not c) (even n % unit vr == 0))) e ∙ never (not (unit vr == 1))
+nothing_completed vr n e = ap (λ (c : Bool). both_hold (not (unit vr == 1)) (both_hold (not c) (even n % unit vr == 0))) e ∙ and_false (not (unit vr == 1))
   where
     both_hold : Bool → Bool → Bool
     both_hold a b = a && b
 
-explicit_by : (d : Dictionary) (s : Syntax) → is_explicit (read_by d s) ≡ is_explicit s
+pub explicit_by : (d : Dictionary) (s : Syntax) → is_explicit (read_by d s) ≡ is_explicit s
 explicit_by d (implicit_in e) = refl
 explicit_by d (little_in e) = refl
 explicit_by d (big_in e) = refl
-
-big_by : (d : Dictionary) (s : Syntax) → is_big (read_by d s) ≡ is_big s
-big_by d (implicit_in e) = refl
-big_by d (little_in e) = refl
-big_by d (big_in e) = refl
 
 -- the same order of bytes, or only whole pairs of them
 abbrev SameOr : (way target : Syntax) → Type 0 → Type 0

@@ -28,8 +28,9 @@ use Rattle.dcm_base.specs.Tables.Syntax.{dictionary_of}
 use Rattle.dcm_base.specs.Tables.Tag.{is_item}
 use Rattle.dcm_base.specs.Tree.Value.{order}
 use Rattle.dcm_base.proofs.DataSets.Alike.{Alike, alike_then, read_by_dictionary, sign_alike}
+use Rattle.dcm_conversion_laws.proofs.Kept.{explicit_by}
 use Rattle.dcm_stream.specs.Reading.{Opened, Reading, Sign, byte_read, closes, element_opens, ends_at, finish, full_closed, halted, head_opens, head_read, in_syntax, is_top, item_opens, plain_opens, read_byte, reads_byte, settled, sign_ends, sign_of, sign_reads, signed_by, size_of, stop_at_end, value_left, without_value}
-use Rattle.dcm_conversion_laws.proofs.Plain.{explicit_too, plain}
+use Rattle.dcm_conversion_laws.proofs.Plain.{plain}
 use Rattle.dcm_conversion_laws.proofs.Shown.{AllAlike, AllSay, AtomAlike, AtomSays, both_all, first_all, later_all, plain_atom, plain_atoms, plain_both}
 use Rattle.dcm_conversion_laws.proofs.Stops.{BarsLate, Deeper, Forms, KnownLevels, Near, differ, forms, length_plain, never_list, number_plain, place_alike, plain_levels, room_plain, same, tag_plain, vr_plain}
 
@@ -99,7 +100,7 @@ sign_known e (Some sign) (l ∷ ls) h =
     let s : Syntax = l.syntax in
     let v : List ℕ = order s sign.vr sign.first in
     let d : Dictionary = if_signed (is_one sign.vr v) (dictionary_of s) in (
-      explicit_too d s ∙ h.0,
+      explicit_by d s ∙ h.0,
       subst (λ (k : Dictionary). Alike k e) (sym (read_by_dictionary d s)) (alike_then d (dictionary_of s) e (either_sign sign.vr v (dictionary_of s)) h.1),
       h.2,
     )

@@ -64,8 +64,3 @@ pub plain_twice : (e : Dictionary) (s : Syntax) → plain s ≡ plain (read_by e
 plain_twice e (implicit_in d) = refl
 plain_twice e (little_in d) = refl
 plain_twice e (big_in d) = refl
-
-pub explicit_too : (e : Dictionary) (s : Syntax) → is_explicit (read_by e s) ≡ is_explicit s
-explicit_too e (implicit_in d) = refl
-explicit_too e (little_in d) = refl
-explicit_too e (big_in d) = refl

@@ -1,6 +1,8 @@
 -- What the extract reads of an explicit data set that says of itself what it holds, each dictionary reads.
 use Rattle.std.proofs.Common.{◌≡◌, ◌∙◌, ap, sym, refl, subst, ℕ, ◌≤◌, List, [], ◌∷◌, Bool, true, false, None, Option, Some, cond, inl, inr, ◌⊎◌}
 use Rattle.std.specs.Prelude.{fold, if◌then◌else◌}
+use Rattle.dcm_conversion_laws.proofs.Kept.{explicit_by}
+use Rattle.dcm_lemmas.proofs.Options.{none_or_some}
 use Rattle.dcm_base.specs.declared.dictionary.Dictionary.{Dictionary}
 use Rattle.dcm_base.specs.declared.fault.Fault.{Fault}
 use Rattle.dcm_base.specs.declared.fault.Fault.TheVariants.{FragmentsBarred, NotAscending, TooDeep}
@@ -9,13 +11,12 @@ use Rattle.dcm_base.specs.declared.length.Length.TheVariants.{Known, Undefined}
 use Rattle.dcm_base.specs.declared.syntax.Syntax.{Syntax}
 use Rattle.dcm_base.specs.declared.syntax.Syntax.TheVariants.{Implicit as implicit_in, Little as little_in, Big as big_in}
 use Rattle.dcm_base.specs.declared.tag.Tag.{Tag}
-use Rattle.dcm_base.specs.declared.vr.Vr.{Vr}
 use Rattle.dcm_base.specs.declared.vr.Vr.TheVariants.{UN}
 use Rattle.dcm_base.specs.Bytes.Spelling.{form}
 use Rattle.dcm_base.specs.Conversion.Recode.{is_explicit}
 use Rattle.dcm_base.specs.Reading.Bars.{ascending_bar, is_above, is_fragment_form, target_bar}
 use Rattle.dcm_base.specs.Reading.Reads.{INPUT_LIMIT, Reads, ended}
-use Rattle.dcm_base.specs.Reading.Stop.{Bar, HeadBar, Stop, complete, is_early, is_early_bar, refused}
+use Rattle.dcm_base.specs.Reading.Stop.{Bar, HeadBar, Stop, complete, is_early, refused}
 use Rattle.dcm_base.specs.Steps.Atoms.{Atom, Shows, front_atoms, opens, value_byte, closes_leaf, opens_item, closes_item, closes_sequence, opens_fragment, ends}
 use Rattle.dcm_base.specs.Tables.Syntax.{Little, read_by}
 use Rattle.dcm_base.specs.Tree.Front.{Front, front}
@@ -23,6 +24,8 @@ use Rattle.dcm_base.proofs.DataSets.Alike.{Alike, alike_self, read_by_dictionary
 use Rattle.dcm_base.proofs.DataSets.OneAnswer.{reads_once}
 use Rattle.dcm_base_laws.proofs.DataSets.OneShown.{front_one}
 use Rattle.dcm_base.proofs.DataSets.Shown.{front_shown}
+use Rattle.dcm_sinks.proofs.ReadBack.RecodeReads.{never_early, same_heads}
+use Rattle.dcm_stream.proofs.Steps.ReadsSome.{never as not_early}
 use Rattle.dcm_stream.specs.Ascending.{ascending, innermost, reached_after}
 use Rattle.dcm_stream.specs.Follows.{BarsAs}
 use Rattle.dcm_stream.specs.Reading.{Reading, finish, read_all, start_of, stop_at_end}
@@ -33,7 +36,7 @@ use Rattle.dcm_sinks.proofs.ReadBack.WrittenRead.{target_heads}
 use Rattle.dcm_editor.proofs.ReadBack.Rises.{in_order}
 use Rattle.dcm_conversion_laws.specs.Agree.{FrontSays, StopsSo}
 use Rattle.dcm_conversion_laws.proofs.Machines.{BarsBoth, Comes, Decided, bytes_come, finish_plain}
-use Rattle.dcm_conversion_laws.proofs.Plain.{explicit_too, plain, plain_twice}
+use Rattle.dcm_conversion_laws.proofs.Plain.{plain, plain_twice}
 use Rattle.dcm_conversion_laws.proofs.Shown.{AllAlike, front_plain, front_says, plain_atom, plain_atoms}
 use Rattle.dcm_conversion_laws.proofs.Stops.{BarsLate}
 
@@ -89,7 +92,7 @@ module _ (Late : Fault → Type 0) (bars : List Atom → HeadBar) (bar : Bar) (k
     begins : Comes Late e (start_of (plain s) start, []) (start_of other start, [])
     begins = inl (record {
       reading_is = ap (λ (x : Syntax). start_of x start) (plain_twice e s);
-      known = (explicit_too e s ∙ explicit, subst (λ (d : Dictionary). Alike d e) (sym (read_by_dictionary e s)) (alike_self e), tt);
+      known = (explicit_by e s ∙ explicit, subst (λ (d : Dictionary). Alike d e) (sym (read_by_dictionary e s)) (alike_self e), tt);
       atoms_are = refl;
       alike = tt;
     })
@@ -138,20 +141,6 @@ module _ (Late : Fault → Type 0) (bars : List Atom → HeadBar) (bar : Bar) (k
 
 -- ---- the bars of a conversion
 
-same_heads : (target : Syntax) (f : Front) (tag : Tag) (vr : Vr) (declared : Length) → target_heads target tag vr declared ≡ target_bar target f tag vr declared
-same_heads (little_in d) f tag vr declared = refl
-same_heads (implicit_in d) f tag vr declared = refl
-same_heads (big_in d) f tag vr declared = refl
-
-not_early : (c : Bool) → is_early_bar (cond c (Some FragmentsBarred) None) ≡ false
-not_early true = refl
-not_early false = refl
-
-never_early : (target : Syntax) (f : Front) (tag : Tag) (vr : Vr) (declared : Length) → is_early_bar (target_bar target f tag vr declared) ≡ false
-never_early (little_in d) f tag vr declared = refl
-never_early (implicit_in d) f tag vr declared = not_early (is_fragment_form (form Little vr declared))
-never_early (big_in d) f tag vr declared = not_early (is_fragment_form (form Little vr declared))
-
 heads_late : (target : Syntax) → NeverEarly (target_heads target)
 heads_late (little_in d) tag vr declared = refl
 heads_late (implicit_in d) tag vr declared = not_early (is_fragment_form (form Little vr declared))
@@ -171,15 +160,12 @@ lets_unknown (big_in d) tag declared = ap (λ (c : Bool). cond c (Some Fragments
 abbrev Never : Fault → Type 0
 Never fault = ⊥
 
-none_some : (o : Option Fault) (fault : Fault) → o ≡ None → o ≡ Some fault → ⊥
-none_some o fault none some = cc
-
 target_bars : (target : Syntax) → TellsBars Never (λ atoms. target_heads target) (target_bar target)
 target_bars target = record {
   same = record { agree = λ f atoms w tag vr declared. same_heads target f tag vr declared; never_early = never_early target };
   never_early = λ atoms. heads_late target;
   both = λ atoms. refl;
-  late = λ atoms tag declared fault is. none_some (target_heads target tag UN declared) fault (lets_unknown target tag declared) is;
+  late = λ atoms tag declared fault is. none_or_some (target_heads target tag UN declared) fault (lets_unknown target tag declared) is;
   decided = λ fault never. absurd never;
 }
 

@@ -1,7 +1,6 @@
 -- What the atoms of a data set say of it, and what they show, read by the extract.
 use Rattle.std.proofs.Common.{◌≡◌, ◌∙◌, ap, sym, refl, subst, ℕ, List, [], ◌∷◌, ◌++◌, length, map, Bool, true, false, Option, None, Some}
 use Rattle.dcm_base.specs.declared.dictionary.Dictionary.{Dictionary}
-use Rattle.dcm_base.specs.declared.dictionary.Dictionary.TheVariants.{Extract, Standard, Signed}
 use Rattle.dcm_base.specs.declared.form.Form.TheVariants.{Value as a_value, Sequence as a_sequence, FragmentList as a_fragment_list}
 use Rattle.dcm_base.specs.declared.length.Length.TheVariants.{Known, Undefined}
 use Rattle.dcm_base.specs.declared.tag.Tag.{Tag}
@@ -15,6 +14,7 @@ use Rattle.dcm_base.specs.Tree.Value.{order}
 use Rattle.dcm_base.proofs.DataSets.Alike.{undefined_same}
 use Rattle.dcm_conversion_laws.specs.Agree.{FrontSays, ItemsSay, OpenItemSays, OpenSays, SaysItself}
 use Rattle.dcm_conversion_laws.proofs.Plain.{list_read, order_plain, plain}
+use Rattle.dcm_deid.proofs.Forms.{read_sq}
 
 -- ---- all atoms
 
@@ -60,13 +60,8 @@ value_sequence e = cc
 list_sequence : a_fragment_list ≡ a_sequence → ⊥
 list_sequence e = cc
 
-sequence_reads : (e : Dictionary) (tag : Tag) → read_in e tag SQ ≡ SQ
-sequence_reads Extract tag = refl
-sequence_reads Standard tag = refl
-sequence_reads Signed tag = refl
-
 sequence_says : (e : Dictionary) (tag : Tag) (vr : Vr) → vr ≡ SQ → read_in e tag vr ≡ vr
-sequence_says e tag vr is = subst (λ (x : Vr). read_in e tag x ≡ x) (sym is) (sequence_reads e tag)
+sequence_says e tag vr is = subst (λ (x : Vr). read_in e tag x ≡ x) (sym is) (read_sq e tag)
 
 bytes_say : (e : Dictionary) (v : List ℕ) (others : List Atom) → AllSay e others → AllSay e (map value_byte v ++ others)
 bytes_say e v others h = bytes_all (AtomSays e) (λ b. tt) v others h

@@ -8,8 +8,10 @@ use crate::calendar::LAST_NUMBER;
 use crate::date::Date;
 use crate::text::{DATE_SIZE, digits_of, is_rest, read_day};
 use arrayvec::ArrayVec;
+use dcm_bytes::{append, backslash};
 
-/// The most bytes of a text that is moved.
+/// The most bytes of a text that is moved, and of a value that is held until its end: 64 characters of a PatientID (PS3.5
+/// 6.2) have up to four each.
 pub const MOST_HELD: usize = 256;
 
 /// What the parts of a text are (PS3.5 6.2).
@@ -52,17 +54,6 @@ fn may_follow(kind: DateKind, rest: &[u8]) -> bool
     }
 }
 
-/// Appends bytes, for which there is room.
-fn append(out: &mut ArrayVec<u8, MOST_HELD>, bytes: &[u8])
-    requires { length out.old.items + length bytes.now ≤ 256 }
-    ensures { out.new.items ≡ out.old.items ++ bytes.now }
-{
-    match out.try_extend_from_slice(bytes) {
-        Ok(()) => (),
-        Err(_) => unreachable!(),
-    }
-}
-
 /// Appends a part with its date moved, where it can be: nothing stays nothing, and what follows the date stays.
 fn add_part(kind: DateKind, days: i32, part: &[u8], out: &mut ArrayVec<u8, MOST_HELD>) -> Option<()>
     requires { length out.old.items + length part.now ≤ 256 }
@@ -79,16 +70,9 @@ fn add_part(kind: DateKind, days: i32, part: &[u8], out: &mut ArrayVec<u8, MOST_
         return None;
     }
     let moved = moved_date(days, date)?;
-    append(out, &moved);
-    append(out, rest);
+    append(&moved, out);
+    append(rest, out);
     Some(())
-}
-
-/// The place of the first backslash, which parts values (PS3.5 6.4).
-fn backslash(text: &[u8]) -> Option<usize>
-    ensures { result ≡ position (λ b. b == 92) text.now }
-{
-    text.iter().position(|byte| *byte == b'\\')
 }
 
 /// Appends a text with all its dates moved, where all can be.
@@ -106,7 +90,7 @@ fn add_parts(
     while let Some(at) = backslash(rest) {
         let (part, after) = rest.split_at(at);
         add_part(kind, days, part, out)?;
-        append(out, b"\\");
+        append(b"\\", out);
         let (_, next) = after.split_at(1);
         rest = next;
     }

@@ -4,6 +4,7 @@ use mathlib.Core.Bool.{false≢true}
 use Rattle.std.specs.Prelude.{find}
 use Rattle.std.specs.List.{slice_index, list_all}
 use Rattle.std.proofs.lemmas.Bool.Decides.{nat_tests}
+use Rattle.dcm_lemmas.proofs.Truth.{and_first, and_second}
 use Rattle.dcm_base.specs.declared.tag.Tag.{Tag}
 use Rattle.dcm_base.specs.declared.vr.Vr.{Vr}
 use Rattle.dcm_base.specs.declared.vr.Vr.TheVariants.{DA, TM, DT, PN, SQ}
@@ -11,8 +12,7 @@ use Rattle.dcm_base.specs.declared.dictionary.Dictionary.TheVariants.{Standard}
 use Rattle.dcm_base.specs.Tables.Tag.{tag_number, is_tag}
 use Rattle.dcm_base.specs.Tables.Representation.{is_sequence}
 use Rattle.dcm_base.specs.Tables.Dictionary.{Entry, ambiguous_in, element_in, entries, entry_of, first_vr, keywords, known_vr_in}
-use Rattle.dcm_base.proofs.Dictionaries.ByNumber.{rest_passes}
-use Rattle.dcm_base.proofs.Dictionaries.Entries.{element_is, first_passes}
+use Rattle.dcm_base.proofs.Dictionaries.Entries.{element_is}
 use Rattle.dcm_deid.specs.declared.fate.Fate.{Fate}
 use Rattle.dcm_deid.specs.declared.fate.Fate.TheVariants.{Remove, Keep}
 use Rattle.dcm_deid.specs.declared.fate.Options.{Options}
@@ -131,15 +131,15 @@ missing_is_none (Some action) p = absurd (false≢true p)
 module _ (options : Options) (depth : Depth) (read : ReadAs) (tag : Tag) (others : is_other (tag_number tag) ≡ true) where
   not_put : is_put options tag ≡ false
   not_put =
-      let after_length = rest_passes _ _ others in
-      let after_patient = rest_passes _ _ after_length in
-      let after_first = rest_passes _ _ after_patient in
-      let after_second = rest_passes _ _ after_first in
-      no_put _ _ _ _ (are_full options.dates) (other_tag 0x0012 0x0062 tag (first_passes _ _ after_patient)) (other_tag 0x0012 0x0063 tag (first_passes _ _ after_first))
-      (other_tag 0x0012 0x0064 tag (first_passes _ _ after_second)) (other_tag 0x0028 0x0303 tag (rest_passes _ _ after_second))
+      let after_length = and_second _ _ others in
+      let after_patient = and_second _ _ after_length in
+      let after_first = and_second _ _ after_patient in
+      let after_second = and_second _ _ after_first in
+      no_put _ _ _ _ (are_full options.dates) (other_tag 0x0012 0x0062 tag (and_first _ _ after_patient)) (other_tag 0x0012 0x0063 tag (and_first _ _ after_first))
+      (other_tag 0x0012 0x0064 tag (and_first _ _ after_second)) (other_tag 0x0028 0x0303 tag (and_second _ _ after_second))
 
   no_patient : is_tag 0x0010 0x0020 tag ≡ false
-  no_patient = other_tag 0x0010 0x0020 tag (first_passes _ _ (rest_passes _ _ others))
+  no_patient = other_tag 0x0010 0x0020 tag (and_first _ _ (and_second _ _ others))
 
   by_vr : (vr : Vr) → suits read vr ≡ true → find (λ (a : Action). a.0 == tag_number tag) actions ≡ None → fate_by_vr options tag vr ≡ Keep
   by_vr vr suited none =
@@ -155,25 +155,25 @@ module _ (options : Options) (depth : Depth) (read : ReadAs) (tag : Tag) (others
       let known : known_vr_in Standard tag ≡ Some e.1 =
       ap (λ o. first_vr o (ambiguous_in Standard tag)) (sym (element_is keywords entries (tag_number tag) (Some e) refl refl is)) in
       sym (known_fate options depth read tag e.1 known)
-      ∙ not_removed (tag.element == 0) (is_opaque read e.1) (is_put_at options depth tag) (fate_by_vr options tag e.1) (no_length tag (first_passes _ _ others))
+      ∙ not_removed (tag.element == 0) (is_opaque read e.1) (is_put_at options depth tag) (fate_by_vr options tag e.1) (no_length tag (and_first _ _ others))
       (no_opaque read e.1 suited) (put_nowhere options depth tag not_put)
       ∙ by_vr e.1 suited none
 
   of_kept : is_kept read (tag_number tag) ≡ true → fate_as options depth read tag ≡ Keep
   of_kept kept =
-      of_entry (entry_of entries (tag_number tag)) refl (first_passes _ _ kept) (missing_is_none _ (first_passes _ _ (rest_passes _ _ kept)))
+      of_entry (entry_of entries (tag_number tag)) refl (and_first _ _ kept) (missing_is_none _ (and_first _ _ (and_second _ _ kept)))
 
 kept_is_kept : (read : ReadAs) (n : ℕ) → is_kept read n ≡ true → IsAlwaysKept read n
 kept_is_kept read n kept options depth tag same =
     let here : is_kept read (tag_number tag) ≡ true = ap (is_kept read) same ∙ kept in
-    of_kept options depth read tag (rest_passes _ _ (rest_passes _ _ here)) here
+    of_kept options depth read tag (and_second _ _ (and_second _ _ here)) here
 
 -- ---- the numbers of the table
 
 at_place : (passes : ℕ → Bool) (ns : List ℕ) → list_all passes ns ≡ true → (place : ℕ) → place < length ns → passes (slice_index ns place) ≡ true
 at_place passes [] all place within = absurd (omega arith)
-at_place passes (n ∷ ns) all zero within = first_passes _ _ all
-at_place passes (n ∷ ns) all (suc place) within = at_place passes ns (rest_passes _ _ all) place (omega (arith, within))
+at_place passes (n ∷ ns) all zero within = and_first _ _ all
+at_place passes (n ∷ ns) all (suc place) within = at_place passes ns (and_second _ _ all) place (omega (arith, within))
 
 pub found : (read : ReadAs) (ns : List ℕ) (place n : ℕ) → ns ≡ always_kept read → place < 2048 → (slice_index ns place == n) ≡ true → IsAlwaysKept read n
 found read ns place n is within same =

@@ -1,6 +1,7 @@
 -- A new element at the end of a data set, or before its open element.
 use Rattle.std.proofs.Common.{◌≡◌, ℕ, List, [], ◌∷◌, ◌++◌, Option, Some, None, Bool, true, false, ◌||◌, ◌&&◌, not, refl, sym, ap, ◌∙◌}
-use Rattle.std.specs.Prelude.{if◌then◌else◌}
+use Rattle.dcm_lemmas.proofs.Choice.{if_false}
+use Rattle.dcm_lemmas.proofs.Truth.{or_true}
 use Rattle.dcm_base.specs.declared.tag.Tag.{Tag}
 use Rattle.dcm_base.specs.Tables.Tag.{below}
 use Rattle.dcm_base.specs.Tree.Tree.{Trees, no_tree, then_trees}
@@ -14,16 +15,9 @@ use Rattle.dcm_deid.proofs.Weave.{end_of}
 use Rattle.dcm_deid.proofs.Placing.{opens_of}
 use Rattle.dcm_deid.proofs.PutInPlace.{New}
 
-or_second : (a : Bool) → (a || true) ≡ true
-or_second true = refl
-or_second false = refl
-
 passed_end : (t : Tag) (last : Option Tag) → is_passed t last true ≡ true
 passed_end t None = refl
-passed_end t (Some l) = or_second (below t l)
-
-if_false : {A : Type 0} (b : Bool) (x y : A) → b ≡ false → (if b then x else y) ≡ y
-if_false b x y p = rw p refl
+passed_end t (Some l) = or_true (below t l)
 
 none_of : (a b : Bool) → a ≡ false → b ≡ true → (a || (false || not b)) ≡ false
 none_of a b p q = rw (p, q) refl

@@ -1,7 +1,9 @@
 -- The sink knows the last tag of the innermost open data set.
 use Rattle.std.proofs.Common.{◌≡◌, ◌≤◌, ◌<◌, ℕ, suc, ◌+◌, List, [], ◌∷◌, ◌++◌, length, map, fold, Option, Some, None, Bool, true, false, refl, sym, ◌∙◌, ap, arith, cond, zero}
-use Rattle.std.specs.Prelude.{option_map, nat_lt, if◌then◌else◌}
+use Rattle.std.specs.Prelude.{option_map, nat_lt}
 use Rattle.std.proofs.lemmas.Bool.{lt-ltb}
+use Rattle.dcm_lemmas.proofs.Numbers.{added_to_nothing}
+use Rattle.dcm_lemmas.proofs.Choice.{if_true}
 use Rattle.dcm_base.specs.declared.tag.Tag.{Tag}
 use Rattle.dcm_base.specs.declared.vr.Vr.{Vr}
 use Rattle.dcm_base.specs.declared.length.Length.{Length}
@@ -17,6 +19,7 @@ use Rattle.dcm_base.specs.Reading.Bars.{innermost_reached, reached_in_tree, reac
 use Rattle.dcm_base.specs.Bytes.Spelling.{last_tag, reached_tag}
 use Rattle.dcm_base.specs.Tree.Value.{order}
 use Rattle.dcm_base.specs.Steps.Atoms.{Atom, opens, value_byte, closes_leaf, opens_item, closes_item, closes_sequence, opens_fragment, fragments_then, open_fragment_atoms, end_atoms, ShowTrees, ShowItems, Shows, ShowsOpen, ShowsOpenItem}
+use Rattle.dcm_sinks.proofs.Dumps.OpenLists.{stays_bytes, stays_on, stays_same}
 use Rattle.dcm_stream.specs.Judging.{fault_of}
 use Rattle.dcm_stream.specs.declared.token.Bar.{Bar as SinkBar}
 use Rattle.dcm_stream.specs.declared.token.Bar.TheVariants.{Order, Identity}
@@ -24,7 +27,7 @@ use Rattle.dcm_stream.specs.Driven.{bars_by}
 use Rattle.dcm_sinks.specs.Laws.{StaysShallow}
 use Rattle.dcm_deid.specs.declared.fate.Options.{Options}
 use Rattle.dcm_deid.specs.DeidentifySink.{Place, State, begun, next, judged_by_depth, after_item, deidentify_bar}
-use Rattle.dcm_deid.proofs.Dropped.{stays_tail, stays_here, stays_at, bytes_stay, head_stays, fragments_stay, trees_stay, items_stay}
+use Rattle.dcm_deid.proofs.Dropped.{stays_here, head_stays, fragments_stay, trees_stay, items_stay}
 
 -- the last tags of the open data sets
 pub record At (s : State) (last : Option Tag) (outer : List (Option Tag)) : Type 0 where
@@ -62,12 +65,9 @@ at_fragments s last outer (v ∷ values) after a =
     let d = at_fragments c.0 last outer values after c.2 in
     (d.0, c.1 ∙ d.1, d.2)
 
-chosen : (t : Bool) (p q : Place) → t ≡ true → (if t then p else q) ≡ p
-chosen t p q e = rw e refl
-
 at_item : (s : State) (last : Option Tag) (outer : List (Option Tag)) (declared : Length) → length outer < 64 → At s last outer → At (next s (opens_item declared)) None (last ∷ outer)
 at_item s last outer declared room a =
-    let is = chosen (nat_lt (length s.place.outer) 64) _ s.place (ap (λ (x : List (Option Tag)). nat_lt (length x) 64) a.is_outer ∙ lt-ltb (length outer) 64 room) in
+    let is = if_true (nat_lt (length s.place.outer) 64) _ s.place (ap (λ (x : List (Option Tag)). nat_lt (length x) 64) a.is_outer ∙ lt-ltb (length outer) 64 room) in
     record { is_last = ap (λ (p : Place). p.last) is; is_outer = ap (λ (p : Place). p.outer) is ∙ ap (λ (l : Option Tag). l ∷ s.place.outer) a.is_last ∙ ap (λ (x : List (Option Tag)). last ∷ x) a.is_outer }
 
 at_item_end : (s : State) (inner last : Option Tag) (outer : List (Option Tag)) → At s inner (last ∷ outer) → At (next s closes_item) last outer
@@ -81,17 +81,17 @@ mutual
   trees_at : (t : Trees) (lists : ℕ) (s : State) (last : Option Tag) (outer : List (Option Tag)) (atoms after : List Atom) → ShowTrees t atoms after → StaysShallow lists atoms → length outer ≡ lists → At s last outer → Comes s atoms after (last_tag last t) outer
   trees_at no_tree lists s last outer atoms after e h same a = (s, ap (fold next s) e, a)
   trees_at (leaf tag vr value rest) lists s last outer atoms after (syntax, others, fo, is, more) h same a =
-      let there = stays_tail lists closes_leaf others (bytes_stay lists (order syntax vr value) (closes_leaf ∷ others) (head_stays lists tag vr (Known (length value)) syntax a_value _ fo (stays_at lists atoms _ is h))) in
+      let there = stays_on lists closes_leaf others (stays_bytes lists (order syntax vr value) (closes_leaf ∷ others) (head_stays lists tag vr (Known (length value)) syntax a_value _ fo (stays_same lists atoms _ is h))) in
       let c = at_value (next s (opens tag vr (Known (length value)) syntax)) (Some tag) outer (order syntax vr value) others (at_head s last outer tag vr (Known (length value)) syntax a) in
       comes_then s c.0 atoms others after _ outer (ap (fold next s) is ∙ c.1) (trees_at rest lists c.0 (Some tag) outer others after more there same c.2)
   trees_at (sequence tag vr declared items rest) lists s last outer atoms after (syntax, contents, others, fo, is, inner, more) h same a =
-      let within = head_stays lists tag vr declared syntax a_sequence contents fo (stays_at lists atoms _ is h) in
-      let there = stays_tail (suc lists) closes_sequence others (items_stay items (suc lists) contents (closes_sequence ∷ others) inner within) in
+      let within = head_stays lists tag vr declared syntax a_sequence contents fo (stays_same lists atoms _ is h) in
+      let there = stays_on (suc lists) closes_sequence others (items_stay items (suc lists) contents (closes_sequence ∷ others) inner within) in
       let c = items_at items (suc lists) (next s (opens tag vr declared syntax)) (Some tag) outer contents (closes_sequence ∷ others) inner within (omega (arith, same)) (at_head s last outer tag vr declared syntax a) in
       comes_then s (next c.0 closes_sequence) atoms others after _ outer (ap (fold next s) is ∙ c.1) (trees_at rest lists (next c.0 closes_sequence) (Some tag) outer others after more there same (record { is_last = c.2.is_last; is_outer = c.2.is_outer }))
   trees_at (fragments tag vr values rest) lists s last outer atoms after (syntax, others, fo, is, more) h same a =
-      let within = head_stays lists tag vr Undefined syntax a_fragment_list (fragments_then values (closes_sequence ∷ others)) fo (stays_at lists atoms _ is h) in
-      let there = stays_tail (suc lists) closes_sequence others (fragments_stay (suc lists) values (closes_sequence ∷ others) within) in
+      let within = head_stays lists tag vr Undefined syntax a_fragment_list (fragments_then values (closes_sequence ∷ others)) fo (stays_same lists atoms _ is h) in
+      let there = stays_on (suc lists) closes_sequence others (fragments_stay (suc lists) values (closes_sequence ∷ others) within) in
       let c = at_fragments (next s (opens tag vr Undefined syntax)) (Some tag) outer values (closes_sequence ∷ others) (at_head s last outer tag vr Undefined syntax a) in
       comes_then s (next c.0 closes_sequence) atoms others after _ outer (ap (fold next s) is ∙ c.1) (trees_at rest lists (next c.0 closes_sequence) (Some tag) outer others after more there same (record { is_last = c.2.is_last; is_outer = c.2.is_outer }))
 
@@ -99,8 +99,8 @@ mutual
   items_at no_item lists s last outer atoms after e h same a = (s, ap (fold next s) e, a)
   items_at (item declared set rest) lists s last outer atoms after (contents, others, is, inner, more) h same a =
       let most : lists ≤ 64 = stays_here lists atoms h in
-      let within = stays_tail lists (opens_item declared) contents (stays_at lists atoms _ is h) in
-      let there = stays_tail lists closes_item others (trees_stay set lists contents (closes_item ∷ others) inner within) in
+      let within = stays_on lists (opens_item declared) contents (stays_same lists atoms _ is h) in
+      let there = stays_on lists closes_item others (trees_stay set lists contents (closes_item ∷ others) inner within) in
       let c = trees_at set lists (next s (opens_item declared)) None (last ∷ outer) contents (closes_item ∷ others) inner within (omega (arith, same)) (at_item s last outer declared (omega (arith, same, most)) a) in
       comes_then s (next c.0 closes_item) atoms others after _ outer (ap (fold next s) is ∙ c.1) (items_at rest lists (next c.0 closes_item) last outer others after more there same (at_item_end c.0 _ last outer c.2))
 
@@ -131,7 +131,7 @@ mutual
   last_open nothing_open whole lists s outer true atoms e h same a = ap (last_of s) e ∙ a.is_last
   last_open (open_leaf tag vr size value) whole lists s outer c atoms (syntax, fo, le, is) h same a = ap (last_of s) is ∙ value_keeps (order syntax vr value) (next s (opens tag vr (Known size) syntax))
   last_open (open_sequence tag vr declared items last') whole lists s outer c atoms (syntax, contents, others, fo, is, inner, more) h same a =
-      let within = head_stays lists tag vr declared syntax a_sequence contents fo (stays_at lists atoms _ is h) in
+      let within = head_stays lists tag vr declared syntax a_sequence contents fo (stays_same lists atoms _ is h) in
       let t = items_at items (suc lists) (next s (opens tag vr declared syntax)) (Some tag) outer contents others inner within (omega (arith, same)) (at_head s _ outer tag vr declared syntax a) in
       ap (last_of s) is
       ∙ ap (λ (u : State). u.place.last) t.1
@@ -145,7 +145,7 @@ mutual
   last_item (open_item declared set) tag lists s outer atoms (contents, is, still, more) h same a =
       let most : lists ≤ 64 = stays_here lists atoms h in
       ap (last_of s) is
-      ∙ last_front set lists (next s (opens_item declared)) (Some tag ∷ outer) contents more (stays_tail lists (opens_item declared) contents (stays_at lists atoms _ is h)) (omega (arith, same)) (at_item s (Some tag) outer declared (omega (arith, same, most)) a)
+      ∙ last_front set lists (next s (opens_item declared)) (Some tag ∷ outer) contents more (stays_on lists (opens_item declared) contents (stays_same lists atoms _ is h)) (omega (arith, same)) (at_item s (Some tag) outer declared (omega (arith, same, most)) a)
 
 -- ---- so many items are open
 
@@ -160,9 +160,6 @@ fragment_outer : (l : Option (ℕ × List ℕ)) (s : State) → outer_of s (open
 fragment_outer None s = refl
 fragment_outer (Some f) s = value_outer f.1 (next s (opens_fragment f.0))
 
-none_more : (n : ℕ) → n ≡ 0 + n
-none_more n = omega arith
-
 mutual
   unfolding Shows items_open
 
@@ -173,25 +170,25 @@ mutual
 
   outer_open : (p : OpenTree) (whole : Trees) (lists : ℕ) (s : State) (outer : List (Option Tag)) (c : Bool) (atoms : List Atom) → ShowsOpen p (end_atoms c) atoms → StaysShallow lists atoms → length outer ≡ lists → At s (last_tag None whole) outer
       → outer_of s atoms ≡ items_open_in p + length outer
-  outer_open nothing_open whole lists s outer false atoms e h same a = ap (outer_of s) e ∙ ap length a.is_outer ∙ none_more (length outer)
-  outer_open nothing_open whole lists s outer true atoms e h same a = ap (outer_of s) e ∙ ap length a.is_outer ∙ none_more (length outer)
+  outer_open nothing_open whole lists s outer false atoms e h same a = ap (outer_of s) e ∙ ap length a.is_outer ∙ added_to_nothing (length outer)
+  outer_open nothing_open whole lists s outer true atoms e h same a = ap (outer_of s) e ∙ ap length a.is_outer ∙ added_to_nothing (length outer)
   outer_open (open_leaf tag vr size value) whole lists s outer c atoms (syntax, fo, le, is) h same a =
-      ap (outer_of s) is ∙ value_outer (order syntax vr value) (next s (opens tag vr (Known size) syntax)) ∙ ap length (at_head s _ outer tag vr (Known size) syntax a).is_outer ∙ none_more (length outer)
+      ap (outer_of s) is ∙ value_outer (order syntax vr value) (next s (opens tag vr (Known size) syntax)) ∙ ap length (at_head s _ outer tag vr (Known size) syntax a).is_outer ∙ added_to_nothing (length outer)
   outer_open (open_sequence tag vr declared items last') whole lists s outer c atoms (syntax, contents, others, fo, is, inner, more) h same a =
-      let within = head_stays lists tag vr declared syntax a_sequence contents fo (stays_at lists atoms _ is h) in
+      let within = head_stays lists tag vr declared syntax a_sequence contents fo (stays_same lists atoms _ is h) in
       let t = items_at items (suc lists) (next s (opens tag vr declared syntax)) (Some tag) outer contents others inner within (omega (arith, same)) (at_head s _ outer tag vr declared syntax a) in
       ap (outer_of s) is
       ∙ ap (λ (u : State). length u.place.outer) t.1
       ∙ outer_item last' tag (suc lists) t.0 outer others more (items_stay items (suc lists) contents others inner within) (omega (arith, same)) t.2
   outer_open (open_fragments tag vr values last') whole lists s outer c atoms (syntax, fo, mi, is) h same a =
       let t = at_fragments (next s (opens tag vr Undefined syntax)) (Some tag) outer values (open_fragment_atoms last') (at_head s _ outer tag vr Undefined syntax a) in
-      ap (outer_of s) is ∙ ap (λ (u : State). length u.place.outer) t.1 ∙ fragment_outer last' t.0 ∙ ap length t.2.is_outer ∙ none_more (length outer)
+      ap (outer_of s) is ∙ ap (λ (u : State). length u.place.outer) t.1 ∙ fragment_outer last' t.0 ∙ ap length t.2.is_outer ∙ added_to_nothing (length outer)
 
   outer_item : (p : OpenItem) (tag : Tag) (lists : ℕ) (s : State) (outer : List (Option Tag)) (atoms : List Atom) → ShowsOpenItem p atoms → StaysShallow lists atoms → suc (length outer) ≡ lists → At s (Some tag) outer → outer_of s atoms ≡ items_open_at p + length outer
-  outer_item no_open_item tag lists s outer atoms e h same a = ap (outer_of s) e ∙ ap length a.is_outer ∙ none_more (length outer)
+  outer_item no_open_item tag lists s outer atoms e h same a = ap (outer_of s) e ∙ ap length a.is_outer ∙ added_to_nothing (length outer)
   outer_item (open_item declared set) tag lists s outer atoms (contents, is, still, more) h same a =
       let most : lists ≤ 64 = stays_here lists atoms h in
-      let inside = outer_front set lists (next s (opens_item declared)) (Some tag ∷ outer) contents more (stays_tail lists (opens_item declared) contents (stays_at lists atoms _ is h)) (omega (arith, same)) (at_item s (Some tag) outer declared (omega (arith, same, most)) a) in
+      let inside = outer_front set lists (next s (opens_item declared)) (Some tag ∷ outer) contents more (stays_on lists (opens_item declared) contents (stays_same lists atoms _ is h)) (omega (arith, same)) (at_item s (Some tag) outer declared (omega (arith, same, most)) a) in
       ap (outer_of s) is ∙ (let e = inside in omega (arith, e))
 
 by_test : (a b : Bool) → option_map fault_of (cond {A = Option SinkBar} a (cond {A = Option SinkBar} b (Some Identity) None) (Some Order)) ≡ cond {A = Option Fault} a (cond {A = Option Fault} b (Some IdentityStays) None) (Some NotAscending)

@@ -22,7 +22,7 @@ use Rattle.dcm_deid.specs.declared.fate.ReadAs.TheVariants.{AsBytes, AsItems}
 use Rattle.dcm_deid.specs.Fate.{fate_as}
 use Rattle.dcm_deid.specs.Deidentify.{value_by, leaf_by, sequence_by, fragments_by, by_fate}
 use Rattle.dcm_deid.specs.Saying.{put_in, with_put, all_put, said, made_whole, open_by_fate, deidentified}
-use Rattle.dcm_deid.specs.DeidentifySink.{begun, next, passed, is_due}
+use Rattle.dcm_deid.specs.DeidentifySink.{nothing_seen, begun, next, passed, is_due}
 use Rattle.dcm_base.specs.Steps.Anew.{reached_anew}
 use Rattle.dcm_deid.proofs.Walked.{due_trees, then_if, written}
 use Rattle.dcm_deid.proofs.OpenParts.{tail, front_written, passes_front}
@@ -186,4 +186,4 @@ pub deidentify_steps : (o : Options) (k : List ℕ) (f : Front) (atoms : List At
     → Shows (reached_anew (deidentified o (made_new o k) f)) (outputs next passed (begun o k) atoms)
 deidentify_steps o k f atoms a h shown =
     subst (λ (g : Front). Shows (reached_anew g) (outputs next passed (begun o k) atoms)) (written_is o k f atoms a shown)
-    (passes_front f 0 o k [] false atoms shown h refl)
+    (passes_front f 0 o k [] nothing_seen atoms shown h refl)

@@ -5,6 +5,7 @@ use Rattle.std.specs.List.{AllZip, AllByRecursion, list_all}
 use Rattle.std.specs.Option.{option_map_or}
 use Rattle.std.proofs.lemmas.Bool.{eqb-true}
 use mathlib.Core.Bool.{false≢true}
+use Rattle.dcm_lemmas.proofs.Truth.{and_first, and_second, or_neither}
 use Rattle.dcm_base.specs.declared.tag.Tag.{Tag}
 use Rattle.dcm_base.specs.declared.vr.Vr.{Vr}
 use Rattle.dcm_base.specs.declared.vr.Vr.TheVariants.{DA, DT, LO, UL, UN}
@@ -13,7 +14,6 @@ use Rattle.dcm_base.specs.Tables.Tag.{is_tag, tag_number}
 use Rattle.dcm_base.specs.Tables.Representation.{is_sequence}
 use Rattle.dcm_base.specs.Tables.Dictionary.{vr_in}
 use Rattle.dcm_base.specs.Tables.Dictionary as D
-use Rattle.dcm_base.proofs.Dictionaries.ByNumber.{rest_passes}
 use Rattle.dcm_dates.specs.declared.moving.DateKind.{DateKind}
 use Rattle.dcm_dates.specs.declared.moving.DateKind.TheVariants.{Da, Dt}
 use Rattle.dcm_dates.specs.Moved.{may_follow, moved, parts_of}
@@ -106,14 +106,6 @@ dates_go : list_all date_goes actions ≡ true
 unfolding actions D.elements_in D.entries D.ambiguous
 dates_go = refl
 
-first_passes : (a b : Bool) → a && b ≡ true → a ≡ true
-first_passes true b p = refl
-first_passes false b p = p
-
-or_false : (a b : Bool) → a ≡ false → b ≡ false → a || b ≡ false
-or_false true b e f = e
-or_false false b e f = f
-
 goes_or : (g d : Bool) → g || not d ≡ true → d ≡ true → g ≡ true
 goes_or true d p q = refl
 goes_or false true p q = p
@@ -143,7 +135,7 @@ by_number tag date = by_entry (D.numbered (D.elements_in Standard) (tag_number t
 module _ (options : Options) (taken : are_left options.dates ≡ false) where
   none_kept : (retains : List Retain) → list_all is_of_dates retains ≡ true → keeps options retains ≡ false
   none_kept [] all = refl
-  none_kept (Dates ∷ rest) all = or_false (is_given options Dates) (keeps options rest) taken (none_kept rest all)
+  none_kept (Dates ∷ rest) all = or_neither (is_given options Dates) (keeps options rest) taken (none_kept rest all)
   none_kept (Uids ∷ rest) all = absurd (false≢true all)
   none_kept (Device ∷ rest) all = absurd (false≢true all)
   none_kept (Institution ∷ rest) all = absurd (false≢true all)
@@ -162,8 +154,8 @@ module _ (options : Options) (taken : are_left options.dates ≡ false) where
 
   some_goes : (row : Action) → keeps_by_dates row ≡ true → (if keeps options row.2 then Keep else row.1) ≢ Keep
   some_goes row goes =
-      unless_kept (keeps options row.2) row.1 (none_kept row.2 (rest_passes (not (is_kept row.1)) (list_all is_of_dates row.2) goes))
-      (not_kept row.1 (first_passes (not (is_kept row.1)) (list_all is_of_dates row.2) goes))
+      unless_kept (keeps options row.2) row.1 (none_kept row.2 (and_second (not (is_kept row.1)) (list_all is_of_dates row.2) goes))
+      (not_kept row.1 (and_first (not (is_kept row.1)) (list_all is_of_dates row.2) goes))
 
   none_goes : (vr : Vr) → IsDateVr vr → fate_of_vr options vr ≢ Keep
   none_goes vr (inl e) = subst (λ (v : Vr). fate_of_vr options v ≢ Keep) (sym e) (unless_kept (are_left options.dates) Empty taken (λ k. cc))
@@ -172,12 +164,12 @@ module _ (options : Options) (taken : are_left options.dates ≡ false) where
   module _ (n : ℕ) (vr : Vr) (date : IsDateVr vr) (dated : is_date_vr (vr_numbered n) ≡ true) where
     table_goes : (rows : List Action) → list_all date_goes rows ≡ true → fate_in_table options (find (λ (a : Action). a.0 == n) rows) vr ≢ Keep
     table_goes [] all = none_goes vr date
-    table_goes (row ∷ rows) all = by_test (table_goes rows (rest_passes (date_goes row) (list_all date_goes rows) all)) (row.0 == n) refl
+    table_goes (row ∷ rows) all = by_test (table_goes rows (and_second (date_goes row) (list_all date_goes rows) all)) (row.0 == n) refl
       where
         by_test : fate_in_table options (find (λ (a : Action). a.0 == n) rows) vr ≢ Keep → (b : Bool) → (row.0 == n) ≡ b
             → fate_in_table options (if b then Some row else find (λ (a : Action). a.0 == n) rows) vr ≢ Keep
         by_test rest true same =
-            some_goes row (goes_or (keeps_by_dates row) (is_date_vr (vr_numbered row.0)) (first_passes (date_goes row) (list_all date_goes rows) all)
+            some_goes row (goes_or (keeps_by_dates row) (is_date_vr (vr_numbered row.0)) (and_first (date_goes row) (list_all date_goes rows) all)
             (ap (λ (m : ℕ). is_date_vr (vr_numbered m)) (eqb-true row.0 n same) ∙ dated))
         by_test rest false same = rest
 
@@ -221,7 +213,7 @@ no_known_date options tag full date = or_named (is_tag 0x0010 0x0020 tag && opti
     by_moved true e = no_date (vr_in Standard tag) (fate_in_table options (find (λ (a : Action). a.0 == tag_number tag) actions) (vr_in Standard tag)) date
     by_moved false e =
         unmoved (vr_in Standard tag) (fate_in_table options (find (λ (a : Action). a.0 == tag_number tag) actions) (vr_in Standard tag))
-        (table_goes options (or_false (are_full options.dates) (are_modified options.dates) full e) (tag_number tag) (vr_in Standard tag) date (by_number tag date) actions dates_go)
+        (table_goes options (or_neither (are_full options.dates) (are_modified options.dates) full e) (tag_number tag) (vr_in Standard tag) date (by_number tag date) actions dates_go)
 
 no_date_here : (options : Options) (depth : Depth) (tag : Tag) → are_full options.dates ≡ false → IsDateVr (vr_in Standard tag) → fate options depth tag ≢ Keep
 no_date_here options depth tag full date = or_removed (is_put_at options depth tag || not (is_known tag)) (fate_of_known options tag) (no_known_date options tag full date)

@@ -1,5 +1,6 @@
 -- What an element opens, in its own syntax and in that of what is put.
 use Rattle.std.proofs.Common.{◌≡◌, ◌⊎◌, inl, inr, ℕ, refl, ap, sym, ◌∙◌}
+use Rattle.dcm_base.proofs.DataSets.Alike.{read_sequence as as_sq}
 use Rattle.dcm_base.specs.declared.tag.Tag.{Tag}
 use Rattle.dcm_base.specs.declared.vr.Vr.{Vr}
 use Rattle.dcm_base.specs.declared.vr.Vr.TheVariants.{SQ, UN, OB, OW}
@@ -14,15 +15,10 @@ use Rattle.dcm_base.specs.declared.form.Form.TheVariants.{Value as a_value, Sequ
 use Rattle.dcm_base.specs.Bytes.Spelling.{form, read_in, read_as}
 
 -- what no dictionary reads otherwise
-read_sq : (d : Dictionary) (tag : Tag) → read_in d tag SQ ≡ SQ
+pub read_sq : (d : Dictionary) (tag : Tag) → read_in d tag SQ ≡ SQ
 read_sq Extract tag = refl
 read_sq Standard tag = refl
 read_sq Signed tag = refl
-
-as_sq : (s : Syntax) (tag : Tag) → read_as s tag SQ ≡ SQ
-as_sq (implicit_in d) tag = refl
-as_sq (little_in d) tag = read_sq d tag
-as_sq (big_in d) tag = read_sq d tag
 
 no_value : (s : Syntax) (n : ℕ) → form s SQ (Known n) ≡ a_value → ⊥
 unfolding form

@@ -13,6 +13,7 @@ pub mod Noted
 pub mod Through
 pub mod HeldValues
 pub mod MadeValues
+pub mod EmptiedValues
 pub mod Forms
 pub mod Formed
 pub mod Research
@@ -31,5 +32,8 @@ pub mod AtEnd
 pub mod AtOpen
 pub mod SaidOnes
 pub mod Deidentified
+pub mod SeenValues
 pub mod PixelsTold
+pub mod DatesTold
+pub mod EmptiedBytes
 pub mod Shallow

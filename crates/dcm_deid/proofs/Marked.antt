@@ -3,7 +3,7 @@ use Rattle.std.proofs.Common.{◌≡◌, ℕ, Bool, true, false, ◌&&◌, ◌==
 use mathlib.Core.Bool.{false≢true}
 use Rattle.std.specs.Prelude.{find}
 use Rattle.std.proofs.lemmas.Bool.Decides.{nat_tests}
-use Rattle.dcm_base.proofs.Dictionaries.ByNumber.{rest_passes}
+use Rattle.dcm_lemmas.proofs.Truth.{and_first, and_second}
 use Rattle.dcm_deid.specs.Fate.{Action, actions}
 use Rattle.dcm_deid.specs.Marks.{marks, is_marked}
 
@@ -14,10 +14,6 @@ all_marked words (row ∷ rows) = is_marked words row.0 && all_marked words rows
 table_marked : all_marked marks actions ≡ true
 unfolding actions marks
 table_marked = refl
-
-first_passes : (a b : Bool) → a && b ≡ true → a ≡ true
-first_passes true b p = refl
-first_passes false b p = p
 
 passed_over : (b : Bool) (row : Action) (rest : Option Action) → b ≡ false → rest ≡ None → (if b then Some row else rest) ≡ None
 passed_over true row rest e none = absurd (false≢true (sym e))
@@ -31,7 +27,7 @@ module _ (words : List ℕ) (n : ℕ) (unmarked : is_marked words n ≡ false) w
 
   absent : (rows : List Action) → all_marked words rows ≡ true → find (λ (a : Action). a.0 == n) rows ≡ None
   absent [] p = refl
-  absent (row ∷ rows) p = passed_over (row.0 == n) row _ (differs row.0 (first_passes _ _ p)) (absent rows (rest_passes _ _ p))
+  absent (row ∷ rows) p = passed_over (row.0 == n) row _ (differs row.0 (and_first _ _ p)) (absent rows (and_second _ _ p))
 
 pub no_row : (n : ℕ) → is_marked marks n ≡ false → find (λ (a : Action). a.0 == n) actions ≡ None
 no_row n unmarked = absent marks n unmarked actions table_marked

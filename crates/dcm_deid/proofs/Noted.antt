@@ -3,13 +3,13 @@ use Rattle.std.proofs.Common.{◌≡◌, ℕ, List, ◌++◌, Option, refl, sym,
 use Rattle.std.specs.Prelude.{fold, Result, Ok, Err, OnOk, OnErr, ⊤}
 use Rattle.std.proofs.lemmas.List.Sums.{fold-append}
 use Rattle.std.specs.Io.KnownBytes.{append_known}
+use Rattle.dcm_lemmas.proofs.Options.{known_twice}
 use Rattle.dcm_base.specs.Steps.Atoms.{Atom}
 use Rattle.dcm_base.specs.Steps.Steps.{outputs}
 use Rattle.dcm_base.proofs.Writes.Runs.{outputs-append, goes_on, goes_failed}
 use Rattle.dcm_base.specs.declared.syntax.Syntax.{Syntax}
 use Rattle.dcm_devices.specs.Device.{AppendsFront, Tells}
 use Rattle.dcm_head.specs.declared.head.Head.{Head}
-use Rattle.dcm_devices.proofs.Writes.Puts.{append_known_twice}
 use Rattle.dcm_stream.specs.Sinks.{Took, Keeps}
 use Rattle.dcm_stream.specs.Tokens.{head_atoms, value_atoms, whole_atoms}
 use Rattle.dcm_stream.proofs.Runs.Wholes.{whole_failed}
@@ -22,7 +22,7 @@ module _ {S : Type 0} (step : S → Atom → S) (writes : S → Atom → List �
   both_bytes : append_known mid (outputs step writes m head) ≡ append_known held (outputs step writes s (first ++ head))
   both_bytes =
       ap (λ (k : Option (List ℕ)). append_known k (outputs step writes m head)) bytes
-      ∙ append_known_twice held (outputs step writes s first) (outputs step writes m head)
+      ∙ known_twice held (outputs step writes s first) (outputs step writes m head)
       ∙ ap (λ (t : S). append_known held (outputs step writes s first ++ outputs step writes t head)) state
       ∙ ap (append_known held) (sym (outputs-append step writes s first head))
 

@@ -14,8 +14,10 @@ use Rattle.dcm_base.specs.Tree.Tree.{Trees, no_tree, leaf, sequence, fragments, 
 use Rattle.dcm_base.specs.Tree.Front.{Front, front, OpenTree, nothing_open, open_leaf, open_sequence, open_fragments, OpenItem, no_open_item, open_item}
 use Rattle.dcm_base.specs.Tree.Value.{order}
 use Rattle.dcm_base.specs.Steps.Atoms.{Atom, opens, value_byte, closes_leaf, opens_item, opens_fragment, ends, fragments_then, open_fragment_atoms, end_atoms, MissesFragment, MayEnd, is_closed, ShowTrees, ShowItems, Shows, ShowsOpen, ShowsOpenItem}
+use Rattle.dcm_sinks.proofs.Dumps.OpenLists.{stays_on, stays_same}
 use Rattle.dcm_sinks.specs.Laws.{StaysShallow}
 use Rattle.dcm_deid.specs.MadeNew.{made_new}
+use Rattle.dcm_deid.specs.declared.deidentifier.Seen.{Seen}
 use Rattle.dcm_deid.specs.declared.fate.Options.{Options}
 use Rattle.dcm_deid.specs.declared.fate.Fate.{Fate}
 use Rattle.dcm_deid.specs.declared.fate.Fate.TheVariants.{Remove, Empty, Replace, Anew, Keep}
@@ -24,19 +26,19 @@ use Rattle.dcm_deid.specs.declared.fate.ReadAs.TheVariants.{AsBytes, AsItems}
 use Rattle.dcm_deid.specs.Fate.{fate_as}
 use Rattle.dcm_deid.specs.Deidentify.{dummy, value_by, by_fate, items_by_fate}
 use Rattle.dcm_deid.specs.Saying.{open_leaf_by, open_sequence_by, made_whole, while_kept, front_by_fate, open_by_fate, open_item_by_fate}
-use Rattle.dcm_deid.specs.DeidentifySink.{Held, State, nothing_held, held_with, head_by, depth_of, said_before}
+use Rattle.dcm_deid.specs.DeidentifySink.{nothing_seen, Held, State, nothing_held, held_with, head_by, depth_of, said_before}
 use Rattle.dcm_base.specs.Steps.Anew.{reached_anew, open_anew, item_anew}
 use Rattle.dcm_deid.proofs.Forms.{value_alone, undefined_sequence, sequence_alone}
-use Rattle.dcm_deid.proofs.Dropped.{at, place_at, drop_bytes, drop_head, drop_fragment, drop_fragments, drop_item_head, drop_trees, drop_items, stays_tail, stays_here, stays_at, head_stays, trees_stay, items_stay, entered}
+use Rattle.dcm_deid.proofs.Dropped.{at, place_at, drop_bytes, drop_head, drop_fragment, drop_fragments, drop_item_head, drop_trees, drop_items, stays_here, head_stays, trees_stay, items_stay, entered}
 use Rattle.dcm_deid.proofs.Kept.{out, head_out, judged_state, fate_here, held_at, leaf_then, uid_bytes, keep_value}
 use Rattle.dcm_deid.proofs.Walked.{gap, gap_shown, written, inside_written, trees_pass, items_pass}
 
 -- ---- what is left out
 
-bytes_gone : (o : Options) (k : List ℕ) (last : Option Tag) (outer : List (Option Tag)) (n : ℕ) (m : Bool) (v : List ℕ) → out (at o k last outer (suc n) m) (map value_byte v) ≡ []
+bytes_gone : (o : Options) (k : List ℕ) (last : Option Tag) (outer : List (Option Tag)) (n : ℕ) (m : Seen) (v : List ℕ) → out (at o k last outer (suc n) m) (map value_byte v) ≡ []
 bytes_gone o k last outer n m v = ap (out (at o k last outer (suc n) m)) (sym (append-nil (map value_byte v))) ∙ (drop_bytes o k last outer n m v []).outs
 
-open_fragments_gone : (o : Options) (k : List ℕ) (last : Option Tag) (outer : List (Option Tag)) (n : ℕ) (m : Bool) (values : List (List ℕ)) (l : Option (ℕ × List ℕ)) → n ≤ 1000 → out (at o k last outer (suc n) m) (fragments_then values (open_fragment_atoms l)) ≡ []
+open_fragments_gone : (o : Options) (k : List ℕ) (last : Option Tag) (outer : List (Option Tag)) (n : ℕ) (m : Seen) (values : List (List ℕ)) (l : Option (ℕ × List ℕ)) → n ≤ 1000 → out (at o k last outer (suc n) m) (fragments_then values (open_fragment_atoms l)) ≡ []
 open_fragments_gone o k last outer n m values None small = (drop_fragments o k last outer n m values [] small).outs
 open_fragments_gone o k last outer n m values (Some f) small =
     (drop_fragments o k last outer n m values (opens_fragment f.0 ∷ map value_byte f.1) small).outs
@@ -46,13 +48,13 @@ open_fragments_gone o k last outer n m values (Some f) small =
 mutual
   unfolding Shows
 
-  drop_front : (f : Front) (lists : ℕ) (o : Options) (k : List ℕ) (outer : List (Option Tag)) (n : ℕ) (m : Bool) (atoms : List Atom) → Shows f atoms → StaysShallow lists atoms → length outer ≡ lists → n ≤ 2 * lists
+  drop_front : (f : Front) (lists : ℕ) (o : Options) (k : List ℕ) (outer : List (Option Tag)) (n : ℕ) (m : Seen) (atoms : List Atom) → Shows f atoms → StaysShallow lists atoms → length outer ≡ lists → n ≤ 2 * lists
       → out (at o k None outer (suc n) m) atoms ≡ []
   drop_front (front whole opened_tree r c) lists o k outer n m atoms (others, shown, more, may, re) h same few =
       (drop_trees whole lists o k None outer n m atoms others shown h same few).outs
       ∙ drop_open opened_tree lists o k (last_tag None whole) outer n m c others more (trees_stay whole lists atoms others shown h) same few
 
-  drop_open : (t : OpenTree) (lists : ℕ) (o : Options) (k : List ℕ) (last : Option Tag) (outer : List (Option Tag)) (n : ℕ) (m c : Bool) (atoms : List Atom) → ShowsOpen t (end_atoms c) atoms → StaysShallow lists atoms → length outer ≡ lists → n ≤ 2 * lists
+  drop_open : (t : OpenTree) (lists : ℕ) (o : Options) (k : List ℕ) (last : Option Tag) (outer : List (Option Tag)) (n : ℕ) (m : Seen) (c : Bool) (atoms : List Atom) → ShowsOpen t (end_atoms c) atoms → StaysShallow lists atoms → length outer ≡ lists → n ≤ 2 * lists
       → out (at o k last outer (suc n) m) atoms ≡ []
   drop_open nothing_open lists o k last outer n m true atoms shown h same few = ap (out (at o k last outer (suc n) m)) shown
   drop_open nothing_open lists o k last outer n m false atoms shown h same few = ap (out (at o k last outer (suc n) m)) shown
@@ -63,7 +65,7 @@ mutual
       ∙ bytes_gone o k (Some tag) outer (suc n) m (order s vr value)
   drop_open (open_sequence tag vr declared items last') lists o k last outer n m c atoms (s, contents, others, fo, is, inner, more) h same few =
       let small : n ≤ 1000 = omega (arith, few, stays_here lists atoms h) in
-      let within = head_stays lists tag vr declared s a_sequence contents fo (stays_at lists atoms _ is h) in
+      let within = head_stays lists tag vr declared s a_sequence contents fo (stays_same lists atoms _ is h) in
       ap (out (at o k last outer (suc n) m)) is
       ∙ (drop_head o k last outer n m tag vr declared s contents small).outs
       ∙ (drop_items items (suc lists) o k (Some tag) outer (suc n) m contents others inner within (omega (arith, same)) (omega (arith, few))).outs
@@ -74,40 +76,40 @@ mutual
       ∙ (drop_head o k last outer n m tag vr Undefined s (fragments_then values (open_fragment_atoms last')) (omega (arith, small))).outs
       ∙ open_fragments_gone o k (Some tag) outer (suc n) m values last' small
 
-  drop_open_item : (t : OpenItem) (lists : ℕ) (o : Options) (k : List ℕ) (last : Option Tag) (outer : List (Option Tag)) (n : ℕ) (m : Bool) (atoms : List Atom) → ShowsOpenItem t atoms → StaysShallow lists atoms → suc (length outer) ≡ lists → suc n ≤ 2 * lists
+  drop_open_item : (t : OpenItem) (lists : ℕ) (o : Options) (k : List ℕ) (last : Option Tag) (outer : List (Option Tag)) (n : ℕ) (m : Seen) (atoms : List Atom) → ShowsOpenItem t atoms → StaysShallow lists atoms → suc (length outer) ≡ lists → suc n ≤ 2 * lists
       → out (at o k last outer (suc n) m) atoms ≡ []
   drop_open_item no_open_item lists o k last outer n m atoms shown h same few = ap (out (at o k last outer (suc n) m)) shown
   drop_open_item (open_item declared set) lists o k last outer n m atoms (contents, is, still, more) h same few =
       let most : lists ≤ 64 = stays_here lists atoms h in
       ap (out (at o k last outer (suc n) m)) is
       ∙ (drop_item_head o k last outer n m declared contents (omega (arith, few, most)) (omega (arith, same, most))).outs
-      ∙ drop_front set lists o k (last ∷ outer) (suc n) m contents more (stays_tail lists (opens_item declared) contents (stays_at lists atoms _ is h)) (omega (arith, same)) few
+      ∙ drop_front set lists o k (last ∷ outer) (suc n) m contents more (stays_on lists (opens_item declared) contents (stays_same lists atoms _ is h)) (omega (arith, same)) few
 
 -- ---- what is kept
 
-keep_bytes : (o : Options) (k : List ℕ) (last : Option Tag) (outer : List (Option Tag)) (h : Option Held) (m : Bool) (v : List ℕ) → out (held_at o k last outer 0 h m) (map value_byte v) ≡ map value_byte v
+keep_bytes : (o : Options) (k : List ℕ) (last : Option Tag) (outer : List (Option Tag)) (h : Option Held) (m : Seen) (v : List ℕ) → out (held_at o k last outer 0 h m) (map value_byte v) ≡ map value_byte v
 keep_bytes o k last outer h m [] = refl
 keep_bytes o k last outer h m (b ∷ v) = ap (λ (y : List Atom). value_byte b ∷ y) (keep_bytes o k last outer (option_map (λ g. held_with g b) h) m v)
 
-keep_fragment : (o : Options) (k : List ℕ) (last : Option Tag) (outer : List (Option Tag)) (m : Bool) (l : Option (ℕ × List ℕ)) → out (at o k last outer 0 m) (open_fragment_atoms l) ≡ open_fragment_atoms l
+keep_fragment : (o : Options) (k : List ℕ) (last : Option Tag) (outer : List (Option Tag)) (m : Seen) (l : Option (ℕ × List ℕ)) → out (at o k last outer 0 m) (open_fragment_atoms l) ≡ open_fragment_atoms l
 keep_fragment o k last outer m None = refl
 keep_fragment o k last outer m (Some f) = ap (λ (y : List Atom). opens_fragment f.0 ∷ y) (keep_bytes o k last outer None m f.1)
 
-keep_open_fragments : (o : Options) (k : List ℕ) (last : Option Tag) (outer : List (Option Tag)) (m : Bool) (values : List (List ℕ)) (l : Option (ℕ × List ℕ))
+keep_open_fragments : (o : Options) (k : List ℕ) (last : Option Tag) (outer : List (Option Tag)) (m : Seen) (values : List (List ℕ)) (l : Option (ℕ × List ℕ))
     → out (at o k last outer 0 m) (fragments_then values (open_fragment_atoms l)) ≡ fragments_then values (open_fragment_atoms l)
 unfolding fragments_then
 keep_open_fragments o k last outer m [] l = keep_fragment o k last outer m l
 keep_open_fragments o k last outer m (v ∷ values) l =
     ap (λ (y : List Atom). opens_fragment (length v) ∷ y)
     (keep_value o k last outer None m v (fragments_then values (open_fragment_atoms l))
-    ∙ ap (λ (y : List Atom). map value_byte v ++ closes_leaf ∷ y) (keep_open_fragments o k last outer false values l))
+    ∙ ap (λ (y : List Atom). map value_byte v ++ closes_leaf ∷ y) (keep_open_fragments o k last outer nothing_seen values l))
 
 -- ---- an open element, by its fate
 
 abbrev pub Passed : Trees → OpenTree → List Atom → List Atom → Type 0
 Passed t o at_end x = (y : List Atom) × ShowTrees t x y × ShowsOpen o at_end y
 
-module _ (o : Options) (k : List ℕ) (outer : List (Option Tag)) (m : Bool) (tag : Tag) (vr : Vr) (s : Syntax) where
+module _ (o : Options) (k : List ℕ) (outer : List (Option Tag)) (m : Seen) (tag : Tag) (vr : Vr) (s : Syntax) where
   held_gone : (fate : Fate) (v : List ℕ) → out (held_at o k (Some tag) outer 1 (Some (nothing_held fate tag vr s)) m) (map value_byte v) ≡ []
   held_gone fate v = ap (out (held_at o k (Some tag) outer 1 (Some (nothing_held fate tag vr s)) m)) (sym (append-nil (map value_byte v))) ∙ uid_bytes o k (Some tag) outer (nothing_held fate tag vr s) m v []
 
@@ -165,7 +167,7 @@ moved : (t : Trees) (p : OpenTree) (at_end x y : List Atom) → x ≡ y → Pass
 moved t p at_end x y e h = subst (λ (z : List Atom). Passed t p at_end z) (sym e) h
 
 -- with what is put before it
-after_gap : (o : Options) (k : List ℕ) (last : Option Tag) (outer : List (Option Tag)) (m : Bool) (tag : Tag) (t : Trees) (p : OpenTree) (head x row : List Atom) → row ≡ (said_before o (place_at last outer 0 m) (Some tag) ++ head) ++ x
+after_gap : (o : Options) (k : List ℕ) (last : Option Tag) (outer : List (Option Tag)) (m : Seen) (tag : Tag) (t : Trees) (p : OpenTree) (head x row : List Atom) → row ≡ (said_before o (place_at last outer 0 m) (Some tag) ++ head) ++ x
     → Passed t p [] (head ++ x) → Passed (gap o outer last (Some tag) t) p [] row
 after_gap o k last outer m tag t p head x row is h =
     moved _ p [] row _ (is ∙ append_assoc (said_before o (place_at last outer 0 m) (Some tag)) head x) (h.0, gap_shown o outer last (Some tag) 0 m t (head ++ x) h.0 h.1, h.2)
@@ -206,15 +208,15 @@ still_open o k (front whole p r c) e = e
 mutual
   unfolding Shows ShowTrees
 
-  pub passes_front : (f : Front) (lists : ℕ) (o : Options) (k : List ℕ) (outer : List (Option Tag)) (m : Bool) (atoms : List Atom) → Shows f atoms → StaysShallow lists atoms → length outer ≡ lists
+  pub passes_front : (f : Front) (lists : ℕ) (o : Options) (k : List ℕ) (outer : List (Option Tag)) (m : Seen) (atoms : List Atom) → Shows f atoms → StaysShallow lists atoms → length outer ≡ lists
       → Shows (reached_anew (front_written o k outer f)) (out (at o k None outer 0 m) atoms)
   passes_front (front whole p r c) lists o k outer m atoms (others, shown, more, may, re) h same =
       let last : Option Tag = last_tag None whole in
       let begins = trees_pass whole lists o k None outer m atoms others shown h same in
-      let behind = passes_open p lists o k last outer false c others may more (trees_stay whole lists atoms others shown h) same in
+      let behind = passes_open p lists o k last outer nothing_seen c others may more (trees_stay whole lists atoms others shown h) same in
       (behind.0, shown_after (written o k outer None whole) (tail o k outer last p c) _ _ _ begins behind.1, behind.2, may_end o k outer p c may, anew_reached _ (open_by_fate (fate_as o) (value_by (made_new o k)) (depth_of outer) p))
 
-  passes_open : (p : OpenTree) (lists : ℕ) (o : Options) (k : List ℕ) (last : Option Tag) (outer : List (Option Tag)) (m c : Bool) (atoms : List Atom) → MayEnd p c → ShowsOpen p (end_atoms c) atoms → StaysShallow lists atoms → length outer ≡ lists
+  passes_open : (p : OpenTree) (lists : ℕ) (o : Options) (k : List ℕ) (last : Option Tag) (outer : List (Option Tag)) (m : Seen) (c : Bool) (atoms : List Atom) → MayEnd p c → ShowsOpen p (end_atoms c) atoms → StaysShallow lists atoms → length outer ≡ lists
       → Passed (tail o k outer last p c) (open_anew (open_by_fate (fate_as o) (value_by (made_new o k)) (depth_of outer) p)) (end_atoms c) (out (at o k last outer 0 m) atoms)
   passes_open nothing_open lists o k last outer m false atoms may shown h same = ([], ap (out (at o k last outer 0 m)) shown, refl)
   passes_open nothing_open lists o k last outer m true atoms may shown h same =
@@ -229,16 +231,16 @@ mutual
   passes_open (open_sequence tag vr declared items last') lists o k last outer m true atoms may shown h same = absurd cc
   passes_open (open_sequence tag vr declared items last') lists o k last outer m false atoms may (s, contents, others, fo, is, inner, more) h same =
       let fate = fate_here o outer a_sequence tag in
-      let within = head_stays lists tag vr declared s a_sequence contents fo (stays_at lists atoms _ is h) in
+      let within = head_stays lists tag vr declared s a_sequence contents fo (stays_same lists atoms _ is h) in
       let there = items_stay items (suc lists) contents others inner within in
       let one : suc (length outer) ≡ suc lists = omega (arith, same) in
       after_gap o k last outer m tag _ _ (head_by fate a_sequence tag vr declared s) _ _
       (ap (out (at o k last outer 0 m)) is ∙ head_out o k last outer m tag vr declared s contents a_sequence fo)
-      (sequence_open o k outer m tag vr s fate declared (items_by_fate (fate_as o) (value_by (made_new o k)) items) (open_item_by_fate (fate_as o) (value_by (made_new o k)) last') contents (out (at o k (Some tag) outer 0 false) others) fo
+      (sequence_open o k outer m tag vr s fate declared (items_by_fate (fate_as o) (value_by (made_new o k)) items) (open_item_by_fate (fate_as o) (value_by (made_new o k)) last') contents (out (at o k (Some tag) outer 0 nothing_seen) others) fo
       ((drop_items items (suc lists) o k (Some tag) outer 0 m contents others inner within one (omega arith)).outs
       ∙ drop_open_item last' (suc lists) o k (Some tag) outer 0 m others more there one (omega arith))
       (items_pass items (suc lists) o k (Some tag) outer m contents others inner within one)
-      (passes_open_item last' (suc lists) o k (Some tag) outer false others more there one))
+      (passes_open_item last' (suc lists) o k (Some tag) outer nothing_seen others more there one))
   passes_open (open_fragments tag vr values last') lists o k last outer m true atoms may shown h same = absurd cc
   passes_open (open_fragments tag vr values last') lists o k last outer m false atoms may (s, fo, mi, is) h same =
       let fate = fate_here o outer a_fragment_list tag in
@@ -246,12 +248,12 @@ mutual
       (ap (out (at o k last outer 0 m)) is ∙ head_out o k last outer m tag vr Undefined s (fragments_then values (open_fragment_atoms last')) a_fragment_list fo)
       (fragments_open o k outer m tag vr s fate values last' fo mi)
 
-  passes_open_item : (p : OpenItem) (lists : ℕ) (o : Options) (k : List ℕ) (last : Option Tag) (outer : List (Option Tag)) (m : Bool) (atoms : List Atom) → ShowsOpenItem p atoms → StaysShallow lists atoms → suc (length outer) ≡ lists
+  passes_open_item : (p : OpenItem) (lists : ℕ) (o : Options) (k : List ℕ) (last : Option Tag) (outer : List (Option Tag)) (m : Seen) (atoms : List Atom) → ShowsOpenItem p atoms → StaysShallow lists atoms → suc (length outer) ≡ lists
       → ShowsOpenItem (item_anew (open_item_by_fate (fate_as o) (value_by (made_new o k)) p)) (out (at o k last outer 0 m) atoms)
   passes_open_item no_open_item lists o k last outer m atoms shown h same = ap (out (at o k last outer 0 m)) shown
   passes_open_item (open_item declared set) lists o k last outer m atoms (contents, is, still, more) h same =
       let most : lists ≤ 64 = stays_here lists atoms h in
-      let within = stays_tail lists (opens_item declared) contents (stays_at lists atoms _ is h) in
+      let within = stays_on lists (opens_item declared) contents (stays_same lists atoms _ is h) in
       let mine : List Atom = out (at o k None (last ∷ outer) 0 m) contents in (
         mine,
         ap (out (at o k last outer 0 m)) is ∙ ap (λ (s : State). opens_item Undefined ∷ out s contents) (entered o k last outer 0 m declared (omega (arith, same, most))),

@@ -1,6 +1,7 @@
 -- The sink that looks for a patient bars what the definitions bar.
-use Rattle.std.proofs.Common.{◌≡◌, ◌∙◌, ap, refl, ℕ, ◌+◌, List, [], ◌∷◌, length, Option, Some, None, Bool, true, false, cond, arith}
+use Rattle.std.proofs.Common.{◌≡◌, ◌∙◌, ap, refl, ℕ, List, [], ◌∷◌, length, Option, Some, None, Bool, true, false, cond}
 use Rattle.std.specs.Prelude.{fold, map, option_map}
+use Rattle.dcm_lemmas.proofs.Numbers.{nothing_added}
 use Rattle.dcm_base.specs.declared.tag.Tag.{Tag}
 use Rattle.dcm_base.specs.declared.vr.Vr.{Vr}
 use Rattle.dcm_base.specs.declared.length.Length.{Length}
@@ -26,9 +27,6 @@ by_tests true true c = refl
 by_tests true false true = refl
 by_tests true false false = refl
 by_tests false b c = refl
-
-nothing_added : (n : ℕ) → n + 0 ≡ n
-nothing_added n = omega arith
 
 pub up_to_steps : (f : Front) (atoms : List Atom) (tag : Tag) (vr : Vr) (declared : Length) → StaysShallow 0 atoms → Shows f atoms → bars_by up_to_bar next up_to_begun atoms tag vr declared ≡ patient_bar f tag vr declared
 up_to_steps f atoms tag vr declared h shown =

@@ -4,6 +4,7 @@ use Rattle.std.proofs.lemmas.Bool.{cases_Bool}
 use Rattle.std.proofs.lemmas.List.{length-take, length-drop, take-append-drop}
 use mathlib.Core.Logic.{⊎_elim}
 use Rattle.std.specs.Prelude.{if◌then◌else◌, codes, bytes_eq}
+use Rattle.dcm_lemmas.proofs.Lists.{bytes_same}
 use Rattle.dcm_base.specs.declared.tag.Tag.{Tag}
 use Rattle.dcm_base.specs.declared.vr.Vr.{Vr}
 use Rattle.dcm_base.specs.declared.syntax.Syntax.{Syntax}
@@ -21,7 +22,7 @@ use Rattle.dcm_base.specs.Tree.Value.{order}
 use Rattle.dcm_base.specs.Steps.Atoms.{Atom, opens, value_byte, closes_leaf, opens_item, closes_item, closes_sequence, fragments_then, ShowTrees, ShowItems, Shows}
 use Rattle.dcm_base.proofs.Conversions.Order.{order_twice}
 use Rattle.dcm_base.proofs.Dictionaries.TagOrder.{tag_is}
-use Rattle.dcm_value.proofs.ReadBack.Texts.{same_bytes}
+use Rattle.dcm_sinks.proofs.Dumps.OpenLists.{stays_bytes, stays_on, stays_same}
 use Rattle.dcm_sinks.specs.Laws.{StaysShallow}
 use Rattle.dcm_deid.specs.MadeNew.{made_new}
 use Rattle.dcm_deid.specs.declared.fate.Options.{Options}
@@ -32,245 +33,14 @@ use Rattle.dcm_deid.specs.declared.fate.Depth.TheVariants.{Outermost, Inside}
 use Rattle.dcm_deid.specs.declared.fate.ReadAs.TheVariants.{AsBytes}
 use Rattle.dcm_deid.specs.Fate.{actions, fate_as, are_left}
 use Rattle.dcm_deid.specs.Deidentify.{value_by, leaf_by, sequence_by, fragments_by, by_fate, items_by_fate}
-use Rattle.dcm_deid.specs.DeidentifySink.{Held, State, begun, next, nothing_held, held_with, held_if, is_yes, depth_of}
+use Rattle.dcm_deid.specs.Emptied.{emptied}
+use Rattle.dcm_deid.specs.DeidentifySink.{State, begun, next, nothing_seen}
 use Rattle.dcm_deid.specs.Pixels.{says_of_pixels, means_yes, may_show, may_show_in}
 use Rattle.dcm_deid.specs.Saying.{put_in, with_put, all_put, said, code_if, methods, front_by_fate, deidentified, read_whole, whole_of}
-use Rattle.dcm_deid.proofs.Dropped.{at, Same, drop_value, drop_close, drop_fragments, drop_items, stays_tail, stays_here, stays_at, bytes_stay, head_stays, fragments_stay, trees_stay, items_stay, entered}
+use Rattle.dcm_deid.proofs.Dropped.{at, Same, drop_value, drop_close, drop_fragments, drop_items, stays_here, head_stays, fragments_stay, trees_stay, items_stay, entered}
 use Rattle.dcm_deid.proofs.HeldValues.{longer_after, held_whole, pads_gone, pads_after, some_left, more_left, some_more}
 use Rattle.dcm_deid.proofs.Kept.{judged_state, fate_here, held_at}
-
--- ---- a held value
-
-too_long : (b : Bool) (v : List ℕ) → b ≡ bytes_eq v (codes "YES") → 256 < length v → false ≡ b
-too_long true v e h = absurd (let s = same_bytes v (codes "YES") (sym e) in omega (arith, h, ap length s))
-too_long false v e h = refl
-
-by_length : (v : List ℕ) (longer : Bool) → longer ≡ longer_after false (drop 256 v) → (not longer && means_yes (take 256 v)) ≡ means_yes v
-by_length v false e =
-    ap (λ (x : List ℕ). bytes_eq x (codes "YES"))
-    (sym (pads_after (take 256 v) (drop 256 v) (pads_gone (drop 256 v) false (sym e)).1) ∙ ap without_pads (take-append-drop 256 v))
-by_length v true e =
-    let some : 0 < length (drop 256 v) = some_more (drop 256 v) (sym e) in
-    let full : length (take 256 v) ≡ 256 = omega (arith, length-take 256 v, length-drop 256 v, some) in
-    let long : length (take 256 v) < length (without_pads v) =
-    subst (λ (x : List ℕ). length (take 256 v) < length (without_pads x)) (take-append-drop 256 v) (more_left (take 256 v) (drop 256 v) (some_left (drop 256 v) (sym e))) in
-    too_long (means_yes v) (without_pads v) refl (omega (arith, full, long))
-
-yes_is : (fate : Fate) (tag : Tag) (vr : Vr) (s : Syntax) (v : List ℕ) → is_yes (fold held_with (nothing_held fate tag vr s) (order s vr v)) ≡ means_yes v
-yes_is fate tag vr s v =
-    ap is_yes (held_whole fate tag vr s v)
-    ∙ ap (λ (x : List ℕ). not (longer_after false (drop 256 v)) && means_yes x) (order_twice s vr (take 256 v))
-    ∙ by_length v (longer_after false (drop 256 v)) refl
-
--- ---- what says of the pixels is kept
-
-burned_in : (o : Options) (depth : Depth) → fate_as o depth AsBytes (record { group = 0x0028; element = 0x0301 }) ≡ Keep
-unfolding fate_as D.vr_in D.element_in D.elements_in D.entries D.ambiguous actions
-burned_in o Outermost = refl
-burned_in o Inside = refl
-
-recognizable : (o : Options) (depth : Depth) → fate_as o depth AsBytes (record { group = 0x0028; element = 0x0302 }) ≡ Keep
-unfolding fate_as D.vr_in D.element_in D.elements_in D.entries D.ambiguous actions
-recognizable o Outermost = refl
-recognizable o Inside = refl
-
-at_tag : (o : Options) (depth : Depth) (tag other : Tag) → tag ≡ other → fate_as o depth AsBytes other ≡ Keep → fate_as o depth AsBytes tag ≡ Keep
-at_tag o depth tag other e h = subst (λ (t : Tag). fate_as o depth AsBytes t ≡ Keep) (sym e) h
-
-pixels_stay : (o : Options) (depth : Depth) (tag : Tag) → says_of_pixels tag ≡ true → fate_as o depth AsBytes tag ≡ Keep
-pixels_stay o depth tag says =
-    ⊎_elim
-    (λ (first : is_tag 0x0028 0x0301 tag ≡ true). at_tag o depth tag (record { group = 0x0028; element = 0x0301 }) (tag_is tag (record { group = 0x0028; element = 0x0301 }) first) (burned_in o depth))
-    (λ (other : is_tag 0x0028 0x0301 tag ≡ false).
-    at_tag o depth tag (record { group = 0x0028; element = 0x0302 }) (tag_is tag (record { group = 0x0028; element = 0x0302 }) (second _ _ other says)) (recognizable o depth))
-    (cases_Bool (is_tag 0x0028 0x0301 tag))
-  where
-    second : (a b : Bool) → a ≡ false → (a || b) ≡ true → b ≡ true
-    second true b p q = cc
-    second false b p q = q
-
--- so one that is not kept says nothing of them
-not_said : (b : Bool) (f : Fate) → (b ≡ true → f ≡ Keep) → (f ≡ Keep → ⊥) → b ≡ false
-not_said true f h other = absurd (other (h refl))
-not_said false f h other = refl
-
--- ---- one element, by its fate
-
-abbrev leaf_says : Fate → Tag → List ℕ → Bool
-leaf_says Remove tag v = false
-leaf_says Empty tag v = says_of_pixels tag && means_yes v
-leaf_says Replace tag v = says_of_pixels tag && means_yes v
-leaf_says (Anew made) tag v = says_of_pixels tag && means_yes v
-leaf_says Keep tag v = says_of_pixels tag && means_yes v
-
-leaf_tells : (fate : Fate) (tag : Tag) (vr : Vr) (v : List ℕ) (x : Trees) → may_show (leaf_by fate tag vr v x) ≡ (leaf_says fate tag v || may_show x)
-leaf_tells Remove tag vr v x = refl
-leaf_tells Empty tag vr v x = refl
-leaf_tells Replace tag vr v x = refl
-leaf_tells (Anew made) tag vr v x = refl
-leaf_tells Keep tag vr v x = refl
-
-abbrev list_says : Fate → Items → Bool
-list_says Keep items = may_show_in items
-list_says _ items = false
-
-list_tells : (fate : Fate) (tag : Tag) (vr : Vr) (items : Items) (x : Trees) → may_show (sequence_by fate tag vr items x) ≡ (list_says fate items || may_show x)
-list_tells Remove tag vr items x = refl
-list_tells Empty tag vr items x = refl
-list_tells Replace tag vr items x = refl
-list_tells (Anew made) tag vr items x = refl
-list_tells Keep tag vr items x = refl
-
-fragments_tell : (fate : Fate) (tag : Tag) (vr : Vr) (values : List (List ℕ)) (x : Trees) → may_show (fragments_by fate tag vr values x) ≡ may_show x
-fragments_tell Remove tag vr values x = refl
-fragments_tell Empty tag vr values x = refl
-fragments_tell Replace tag vr values x = refl
-fragments_tell (Anew made) tag vr values x = refl
-fragments_tell Keep tag vr values x = refl
-
--- ---- the state after it
-
-left_uid : (o : Options) (k : List ℕ) (last : Option Tag) (outer : List (Option Tag)) (h : Held) (m : Bool) (v : List ℕ) (x : List Atom)
-    → fold next (held_at o k last outer 1 (Some h) m) (map value_byte v ++ closes_leaf ∷ x) ≡ fold next (at o k last outer 0 m) x
-left_uid o k last outer h m [] x = refl
-left_uid o k last outer h m (b ∷ v) x = left_uid o k last outer (held_with h b) m v x
-
-kept_held : (o : Options) (k : List ℕ) (last : Option Tag) (outer : List (Option Tag)) (h : Held) (m : Bool) (v : List ℕ) (x : List Atom)
-    → fold next (held_at o k last outer 0 (Some h) m) (map value_byte v ++ closes_leaf ∷ x) ≡ fold next (at o k last outer 0 (is_yes (fold held_with h v) || m)) x
-kept_held o k last outer h m [] x = refl
-kept_held o k last outer h m (b ∷ v) x = kept_held o k last outer (held_with h b) m v x
-
-kept_value : (o : Options) (k : List ℕ) (last : Option Tag) (outer : List (Option Tag)) (m : Bool) (v : List ℕ) (x : List Atom)
-    → fold next (at o k last outer 0 m) (map value_byte v ++ closes_leaf ∷ x) ≡ fold next (at o k last outer 0 m) x
-kept_value o k last outer m [] x = refl
-kept_value o k last outer m (b ∷ v) x = kept_value o k last outer m v x
-
-kept_fragments : (o : Options) (k : List ℕ) (last : Option Tag) (outer : List (Option Tag)) (m : Bool) (values : List (List ℕ)) (x : List Atom)
-    → fold next (at o k last outer 0 m) (fragments_then values (closes_sequence ∷ x)) ≡ fold next (at o k last outer 0 m) x
-unfolding fragments_then
-kept_fragments o k last outer m [] x = refl
-kept_fragments o k last outer m (v ∷ values) x = kept_value o k last outer m v (fragments_then values (closes_sequence ∷ x)) ∙ kept_fragments o k last outer m values x
-
-module _ (o : Options) (k : List ℕ) (outer : List (Option Tag)) (m : Bool) (tag : Tag) (vr : Vr) (s : Syntax) (others : List Atom) where
-  abbrev Tells : State → List Atom → Bool → Type 0
-  Tells state atoms says = fold next state atoms ≡ fold next (at o k (Some tag) outer 0 (says || m)) others
-
-  abbrev row : List ℕ → List Atom
-  row value = map value_byte (order s vr value) ++ closes_leaf ∷ others
-
-  nothing_said : (state : State) (atoms : List Atom) (other : Bool) → says_of_pixels tag ≡ false → Tells state atoms false → Tells state atoms (says_of_pixels tag && other)
-  nothing_said state atoms other e h = subst (λ (b : Bool). Tells state atoms (b && other)) (sym e) h
-
-  kept_leaf : (fate : Fate) (held : Bool) (value : List ℕ) → Tells (held_at o k (Some tag) outer 0 (held_if held fate tag vr s) m) (map value_byte (order s vr value) ++ closes_leaf ∷ others) (held && means_yes value)
-  kept_leaf fate true value =
-      kept_held o k (Some tag) outer (nothing_held fate tag vr s) m (order s vr value) others
-      ∙ ap (λ (b : Bool). fold next (at o k (Some tag) outer 0 (b || m)) others) (yes_is fate tag vr s value)
-  kept_leaf fate false value = kept_value o k (Some tag) outer m (order s vr value) others
-
-  leaf_told : (fate : Fate) (value : List ℕ) → (says_of_pixels tag ≡ true → fate ≡ Keep)
-      → Tells (judged_state o k outer m tag vr s fate a_value) (map value_byte (order s vr value) ++ closes_leaf ∷ others) (leaf_says fate tag (value_by (made_new o k) fate vr value))
-  leaf_told Remove value stays = (drop_value o k (Some tag) outer 0 m (order s vr value) others).states
-  leaf_told Empty value stays =
-      nothing_said (judged_state o k outer m tag vr s Empty a_value) (row value) (means_yes (value_by (made_new o k) Empty vr value)) (not_said (says_of_pixels tag) Empty stays (λ e. cc))
-      (drop_value o k (Some tag) outer 0 m (order s vr value) others).states
-  leaf_told Replace value stays =
-      nothing_said (judged_state o k outer m tag vr s Replace a_value) (row value) (means_yes (value_by (made_new o k) Replace vr value)) (not_said (says_of_pixels tag) Replace stays (λ e. cc))
-      (drop_value o k (Some tag) outer 0 m (order s vr value) others).states
-  leaf_told (Anew made) value stays =
-      nothing_said (judged_state o k outer m tag vr s (Anew made) a_value) (row value) (means_yes (value_by (made_new o k) (Anew made) vr value)) (not_said (says_of_pixels tag) (Anew made) stays (λ e. cc))
-      (left_uid o k (Some tag) outer (nothing_held (Anew made) tag vr s) m (order s vr value) others)
-  leaf_told Keep value stays = kept_leaf Keep (says_of_pixels tag) value
-
-  list_told : (fate : Fate) (items : Items) (contents : List Atom)
-      → Same (at o k (Some tag) outer 1 m) contents (at o k (Some tag) outer 1 m) (closes_sequence ∷ others)
-      → fold next (at o k (Some tag) outer 0 m) contents ≡ fold next (at o k (Some tag) outer 0 (may_show_in items || m)) (closes_sequence ∷ others)
-      → Tells (judged_state o k outer m tag vr s fate a_sequence) contents (list_says fate items)
-  list_told Remove items contents dropped kept = dropped.states ∙ (drop_close o k (Some tag) outer 0 m others).states
-  list_told Empty items contents dropped kept = dropped.states ∙ (drop_close o k (Some tag) outer 0 m others).states
-  list_told Replace items contents dropped kept = dropped.states ∙ (drop_close o k (Some tag) outer 0 m others).states
-  list_told (Anew made) items contents dropped kept = dropped.states ∙ (drop_close o k (Some tag) outer 0 m others).states
-  list_told Keep items contents dropped kept = kept
-
-  fragments_told : (fate : Fate) (values : List (List ℕ))
-      → Same (at o k (Some tag) outer 1 m) (fragments_then values (closes_sequence ∷ others)) (at o k (Some tag) outer 1 m) (closes_sequence ∷ others)
-      → Tells (judged_state o k outer m tag vr s fate a_fragment_list) (fragments_then values (closes_sequence ∷ others)) false
-  fragments_told Remove values dropped = dropped.states ∙ (drop_close o k (Some tag) outer 0 m others).states
-  fragments_told Empty values dropped = dropped.states ∙ (drop_close o k (Some tag) outer 0 m others).states
-  fragments_told Replace values dropped = dropped.states ∙ (drop_close o k (Some tag) outer 0 m others).states
-  fragments_told (Anew made) values dropped = dropped.states ∙ (drop_close o k (Some tag) outer 0 m others).states
-  fragments_told Keep values dropped = kept_fragments o k (Some tag) outer m values others
-
--- ---- a data set
-
-head_state : (o : Options) (k : List ℕ) (last : Option Tag) (outer : List (Option Tag)) (m : Bool) (tag : Tag) (vr : Vr) (declared : Length) (s : Syntax) (x : List Atom) (f : Form) → form s (read_as s tag vr) declared ≡ f
-    → fold next (at o k last outer 0 m) (opens tag vr declared s ∷ x) ≡ fold next (judged_state o k outer m tag vr s (fate_here o outer f tag) f) x
-head_state o k last outer m tag vr declared s x f e = ap (λ (g : Form). fold next (judged_state o k outer m tag vr s (fate_here o outer g tag) g) x) e
-
-in_turn : (a b m : Bool) → (b || (a || m)) ≡ ((a || b) || m)
-in_turn true true m = refl
-in_turn true false m = refl
-in_turn false b m = refl
-
-mutual
-  unfolding ShowTrees last_tag
-
-  trees_tell : (t : Trees) (lists : ℕ) (o : Options) (k : List ℕ) (last : Option Tag) (outer : List (Option Tag)) (m : Bool) (atoms after : List Atom)
-      → ShowTrees t atoms after → StaysShallow lists atoms → length outer ≡ lists
-      → fold next (at o k last outer 0 m) atoms ≡ fold next (at o k (last_tag last t) outer 0 (may_show (by_fate (fate_as o) (value_by (made_new o k)) (depth_of outer) t) || m)) after
-  trees_tell no_tree lists o k last outer m atoms after e h same = ap (fold next (at o k last outer 0 m)) e
-  trees_tell (leaf tag vr value rest) lists o k last outer m atoms after (s, others, fo, is, more) h same =
-      let there = stays_tail lists closes_leaf others (bytes_stay lists (order s vr value) (closes_leaf ∷ others) (head_stays lists tag vr (Known (length value)) s a_value _ fo (stays_at lists atoms _ is h))) in
-      let fate = fate_here o outer a_value tag in
-      let now : List ℕ = value_by (made_new o k) fate vr value in
-      let says : Bool = leaf_says fate tag now in
-      let left : Trees = by_fate (fate_as o) (value_by (made_new o k)) (depth_of outer) rest in
-      ap (fold next (at o k last outer 0 m)) is
-      ∙ head_state o k last outer m tag vr (Known (length value)) s (map value_byte (order s vr value) ++ closes_leaf ∷ others) a_value fo
-      ∙ leaf_told o k outer m tag vr s others fate value (pixels_stay o (depth_of outer) tag)
-      ∙ trees_tell rest lists o k (Some tag) outer (says || m) others after more there same
-      ∙ ap (λ (b : Bool). fold next (at o k (last_tag (Some tag) rest) outer 0 b) after)
-      (in_turn says (may_show left) m ∙ ap (λ (b : Bool). b || m) (sym (leaf_tells fate tag vr now left)))
-  trees_tell (sequence tag vr declared items rest) lists o k last outer m atoms after (s, contents, others, fo, is, inner, more) h same =
-      let within = head_stays lists tag vr declared s a_sequence contents fo (stays_at lists atoms _ is h) in
-      let there = stays_tail (suc lists) closes_sequence others (items_stay items (suc lists) contents (closes_sequence ∷ others) inner within) in
-      let fate = fate_here o outer a_sequence tag in
-      let now : Items = items_by_fate (fate_as o) (value_by (made_new o k)) items in
-      let says : Bool = list_says fate now in
-      let left : Trees = by_fate (fate_as o) (value_by (made_new o k)) (depth_of outer) rest in
-      ap (fold next (at o k last outer 0 m)) is
-      ∙ head_state o k last outer m tag vr declared s contents a_sequence fo
-      ∙ list_told o k outer m tag vr s others fate now contents
-      (drop_items items (suc lists) o k (Some tag) outer 0 m contents (closes_sequence ∷ others) inner within (omega (arith, same)) (omega arith))
-      (items_tell items (suc lists) o k (Some tag) outer m contents (closes_sequence ∷ others) inner within (omega (arith, same)))
-      ∙ trees_tell rest lists o k (Some tag) outer (says || m) others after more there same
-      ∙ ap (λ (b : Bool). fold next (at o k (last_tag (Some tag) rest) outer 0 b) after)
-      (in_turn says (may_show left) m ∙ ap (λ (b : Bool). b || m) (sym (list_tells fate tag vr now left)))
-  trees_tell (fragments tag vr values rest) lists o k last outer m atoms after (s, others, fo, is, more) h same =
-      let within = head_stays lists tag vr Undefined s a_fragment_list (fragments_then values (closes_sequence ∷ others)) fo (stays_at lists atoms _ is h) in
-      let there = stays_tail (suc lists) closes_sequence others (fragments_stay (suc lists) values (closes_sequence ∷ others) within) in
-      let fate = fate_here o outer a_fragment_list tag in
-      let left : Trees = by_fate (fate_as o) (value_by (made_new o k)) (depth_of outer) rest in
-      ap (fold next (at o k last outer 0 m)) is
-      ∙ head_state o k last outer m tag vr Undefined s (fragments_then values (closes_sequence ∷ others)) a_fragment_list fo
-      ∙ fragments_told o k outer m tag vr s others fate values (drop_fragments o k (Some tag) outer 0 m values (closes_sequence ∷ others) (omega arith))
-      ∙ trees_tell rest lists o k (Some tag) outer m others after more there same
-      ∙ ap (λ (b : Bool). fold next (at o k (last_tag (Some tag) rest) outer 0 (b || m)) after) (sym (fragments_tell fate tag vr values left))
-
-  items_tell : (t : Items) (lists : ℕ) (o : Options) (k : List ℕ) (last : Option Tag) (outer : List (Option Tag)) (m : Bool) (atoms after : List Atom)
-      → ShowItems t atoms after → StaysShallow lists atoms → suc (length outer) ≡ lists
-      → fold next (at o k last outer 0 m) atoms ≡ fold next (at o k last outer 0 (may_show_in (items_by_fate (fate_as o) (value_by (made_new o k)) t) || m)) after
-  items_tell no_item lists o k last outer m atoms after e h same = ap (fold next (at o k last outer 0 m)) e
-  items_tell (item declared set rest) lists o k last outer m atoms after (contents, others, is, inner, more) h same =
-      let most : lists ≤ 64 = stays_here lists atoms h in
-      let within = stays_tail lists (opens_item declared) contents (stays_at lists atoms _ is h) in
-      let there = stays_tail lists closes_item others (trees_stay set lists contents (closes_item ∷ others) inner within) in
-      let says : Bool = may_show (by_fate (fate_as o) (value_by (made_new o k)) Inside set) in
-      let left : Items = items_by_fate (fate_as o) (value_by (made_new o k)) rest in
-      ap (fold next (at o k last outer 0 m)) is
-      ∙ ap (λ (t : State). fold next t contents) (entered o k last outer 0 m declared (omega (arith, same, most)))
-      ∙ trees_tell set lists o k None (last ∷ outer) m contents (closes_item ∷ others) inner within (omega (arith, same))
-      ∙ items_tell rest lists o k last outer (says || m) others after more there same
-      ∙ ap (λ (b : Bool). fold next (at o k last outer 0 b) after) (in_turn says (may_show_in left) m)
+use Rattle.dcm_deid.proofs.SeenValues.{seen_by, trees_tell}
 
 -- ---- what says what was done says nothing of the pixels
 
@@ -333,12 +103,12 @@ said_silent o = (refl, (refl, (none_or (may_show_in (methods o)) false (methods_
 -- ---- the law
 
 pub pixel_steps : (o : Options) (k : List ℕ) (reached : Option Tag) (set : Trees) (atoms : List Atom) → StaysShallow 0 atoms → Shows (read_whole reached set) atoms
-    → (fold next (begun o k) atoms).place.may_show ≡ may_show (whole_of (deidentified o (made_new o k) (read_whole reached set)))
+    → (fold next (begun o k) atoms).place.seen.may_show ≡ may_show (whole_of (deidentified o (made_new o k) (read_whole reached set)))
 unfolding Shows deidentified
 pixel_steps o k reached set atoms h (others, shown, more, may, re) =
     let left : Trees = by_fate (fate_as o) (value_by (made_new o k)) Outermost set in
-    ap (λ (s : State). s.place.may_show) (trees_tell set 0 o k None [] false atoms others shown h refl)
-    ∙ ap (λ (x : List Atom). (fold next (at o k (last_tag None set) [] 0 (may_show left || false)) x).place.may_show) more
+    ap (λ (s : State). s.place.seen.may_show) (trees_tell set 0 o k None [] nothing_seen atoms others shown h refl)
+    ∙ ap (λ (x : List Atom). (fold next (at o k (last_tag None set) [] 0 (seen_by nothing_seen (may_show left) (emptied (fate_as o) (made_new o k) Outermost set))) x).place.seen.may_show) more
     ∙ sym
     (all_show (said o) (front_by_fate (fate_as o) (value_by (made_new o k)) Outermost (read_whole reached set)) (said_silent o)
     ∙ then_shows left no_tree)

@@ -2,6 +2,7 @@
 use Rattle.std.proofs.Common.{◌≡◌, ℕ, List, [], ◌∷◌, ◌++◌, Option, Some, Bool, true, false, ◌||◌, not, refl}
 use Rattle.std.proofs.lemmas.Bool.{cases_Bool}
 use mathlib.Core.Logic.{⊎_elim}
+use Rattle.dcm_lemmas.proofs.Truth.{or_neither}
 use Rattle.dcm_base.specs.declared.tag.Tag.{Tag}
 use Rattle.dcm_base.specs.Tables.Tag.{same_tag, below}
 use Rattle.dcm_base.specs.Bytes.Spelling.{last_tag}
@@ -34,9 +35,6 @@ reach last (open_fragments tag vr values last') = Some tag
 abbrev pub opens_of : Options → List ℕ → OpenTree → Bool → Tag → Option Tag → Bool
 opens_of o k p c t last = has_open t (open_by_fate (fate_as o) (value_by (made_new o k)) Outermost p) || not (is_passed t (reach last p) c)
 
-none_of : (a b : Bool) → a ≡ false → b ≡ false → (a || b) ≡ false
-none_of a b p q = cc
-
 is_not : (a b : Bool) → a ≡ true → not (a || b) ≡ false
 is_not a b p = rw p refl
 
@@ -52,13 +50,13 @@ unfolding last_tag
 opens_none o k nothing_open c t no_tree u low a up = is_not (below t u) c low
 opens_none o k (open_leaf tag vr size value) c t no_tree u low a up =
     let here : below t tag ≡ true = below_trans t u tag low up in
-    none_of _ _ (kept_other (fate_as o Outermost AsBytes tag) t tag (open_leaf tag vr size value) (below_other_way t tag here)) (is_not (below t tag) c here)
+    or_neither _ _ (kept_other (fate_as o Outermost AsBytes tag) t tag (open_leaf tag vr size value) (below_other_way t tag here)) (is_not (below t tag) c here)
 opens_none o k (open_sequence tag vr declared items last') c t no_tree u low a up =
     let here : below t tag ≡ true = below_trans t u tag low up in
-    none_of _ _ (kept_other (fate_as o Outermost AsItems tag) t tag (open_sequence tag vr _ _ _) (below_other_way t tag here)) (is_not (below t tag) c here)
+    or_neither _ _ (kept_other (fate_as o Outermost AsItems tag) t tag (open_sequence tag vr _ _ _) (below_other_way t tag here)) (is_not (below t tag) c here)
 opens_none o k (open_fragments tag vr values last') c t no_tree u low a up =
     let here : below t tag ≡ true = below_trans t u tag low up in
-    none_of _ _ (kept_other (fate_as o Outermost AsBytes tag) t tag (open_fragments tag vr values last') (below_other_way t tag here)) (is_not (below t tag) c here)
+    or_neither _ _ (kept_other (fate_as o Outermost AsBytes tag) t tag (open_fragments tag vr values last') (below_other_way t tag here)) (is_not (below t tag) c here)
 opens_none o k p c t (leaf tag vr value rest) u low a up = opens_none o k p c t rest tag (below_trans t u tag low a.0) a.1 up
 opens_none o k p c t (sequence tag vr declared items rest) u low a up = opens_none o k p c t rest tag (below_trans t u tag low a.0) a.2 up
 opens_none o k p c t (fragments tag vr values rest) u low a up = opens_none o k p c t rest tag (below_trans t u tag low a.0) a.1 up

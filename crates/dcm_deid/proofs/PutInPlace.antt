@@ -1,6 +1,6 @@
 -- A new element that is put into a data set, whole or as far as it was read, comes to its place.
 use Rattle.std.proofs.Common.{◌≡◌, ℕ, List, [], ◌∷◌, ◌++◌, Option, Some, Bool, true, false, ◌||◌, refl, sym, ap, subst, ◌∙◌}
-use Rattle.std.specs.Prelude.{if◌then◌else◌}
+use Rattle.dcm_lemmas.proofs.Truth.{or_first}
 use Rattle.dcm_base.specs.declared.tag.Tag.{Tag}
 use Rattle.dcm_base.specs.declared.vr.Vr.{Vr}
 use Rattle.dcm_base.specs.Tables.Tag.{same_tag}
@@ -29,12 +29,6 @@ pub record New (o : Options) (n : Tag × Trees) : Type 0 where
   pub alone : then_trees n.1 no_tree ≡ n.1
   pub gone : (read : ReadAs) → is_there o n.0 n.0 ≡ false → fate_as o Outermost read n.0 ≡ Remove
   pub stays : (read : ReadAs) → is_there o n.0 n.0 ≡ true → fate_as o Outermost read n.0 ≡ Keep
-
-if_false : {A : Type 0} (b : Bool) (x y : A) → b ≡ false → (if b then x else y) ≡ y
-if_false b x y p = rw p refl
-
-or_first : (a b : Bool) → a ≡ true → (a || b) ≡ true
-or_first a b p = rw p refl
 
 module _ (o : Options) (k : List ℕ) (news : List (Tag × Trees)) (n : Tag × Trees) (less : AllLess news n.0) (new : New o n) where
   gone_at : (read : ReadAs) (tag : Tag) → is_there o tag n.0 ≡ false → same_tag n.0 tag ≡ true → fate_as o Outermost read tag ≡ Remove

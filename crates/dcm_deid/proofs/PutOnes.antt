@@ -1,6 +1,8 @@
 -- What says what was done, put one after another and all at once.
 use Rattle.std.proofs.Common.{◌≡◌, ℕ, List, [], ◌∷◌, ◌++◌, Option, Some, Bool, true, false, ◌||◌, ◌&&◌, refl, sym, ap, ◌∙◌}
 use Rattle.std.specs.Prelude.{if◌then◌else◌}
+use Rattle.dcm_lemmas.proofs.Choice.{if_false, if_true}
+use Rattle.dcm_lemmas.proofs.Truth.{or_after_false}
 use Rattle.dcm_base.specs.declared.tag.Tag.{Tag}
 use Rattle.dcm_base.specs.declared.vr.Vr.{Vr}
 use Rattle.dcm_base.specs.declared.length.Length.{Length}
@@ -9,7 +11,7 @@ use Rattle.dcm_base.specs.Tables.Tag.{same_tag, below}
 use Rattle.dcm_base.specs.Tree.Tree.{Trees, leaf, sequence, fragments, Items, then_trees}
 use Rattle.dcm_base.proofs.Dictionaries.TagOrder.{below_other_way}
 use Rattle.dcm_edits.specs.Edit.{has}
-use Rattle.dcm_edits.proofs.Trees.NewOnes.{below_not_back, same_above, if_true}
+use Rattle.dcm_edits.proofs.Trees.NewOnes.{below_not_back, same_above}
 use Rattle.dcm_deid.specs.declared.fate.Options.{Options}
 use Rattle.dcm_deid.specs.declared.fate.Fate.{Fate}
 use Rattle.dcm_deid.specs.declared.fate.Fate.TheVariants.{Remove, Empty, Replace, Anew, Keep}
@@ -25,23 +27,17 @@ pub record Part (tag : Tag) (part : Trees → Trees) : Type 0 where
   pub stops : (t : Tag) (e x : Trees) → below t tag ≡ true → put_in t e x ≡ then_trees e x → put_in t e (part x) ≡ then_trees e (part x)
   pub other : (t : Tag) (x : Trees) → same_tag t tag ≡ false → has t (part x) ≡ has t x
 
-if_false : {A : Type 0} (b : Bool) (x y : A) → b ≡ false → (if b then x else y) ≡ y
-if_false b x y p = rw p refl
-
-or_right : (b c : Bool) → b ≡ false → (b || c) ≡ c
-or_right b c p = rw p refl
-
 pub none_part : (tag : Tag) → Part tag (λ x. x)
 none_part tag = record { skips = λ t e x h. refl; stops = λ t e x h q. q; other = λ t x h. refl }
 
 pub leaf_part : (tag : Tag) (vr : Vr) (v : List ℕ) → Part tag (leaf tag vr v)
-leaf_part tag vr v = record { skips = λ t e x h. if_false _ _ _ h; stops = λ t e x h q. if_true _ _ _ h; other = λ t x h. or_right _ _ h }
+leaf_part tag vr v = record { skips = λ t e x h. if_false _ _ _ h; stops = λ t e x h q. if_true _ _ _ h; other = λ t x h. or_after_false _ _ h }
 
 pub sequence_part : (tag : Tag) (vr : Vr) (declared : Length) (items : Items) → Part tag (sequence tag vr declared items)
-sequence_part tag vr declared items = record { skips = λ t e x h. if_false _ _ _ h; stops = λ t e x h q. if_true _ _ _ h; other = λ t x h. or_right _ _ h }
+sequence_part tag vr declared items = record { skips = λ t e x h. if_false _ _ _ h; stops = λ t e x h q. if_true _ _ _ h; other = λ t x h. or_after_false _ _ h }
 
 fragments_part : (tag : Tag) (vr : Vr) (values : List (List ℕ)) → Part tag (fragments tag vr values)
-fragments_part tag vr values = record { skips = λ t e x h. if_false _ _ _ h; stops = λ t e x h q. if_true _ _ _ h; other = λ t x h. or_right _ _ h }
+fragments_part tag vr values = record { skips = λ t e x h. if_false _ _ _ h; stops = λ t e x h q. if_true _ _ _ h; other = λ t x h. or_after_false _ _ h }
 
 pub leaf_by_part : (fate : Fate) (tag : Tag) (vr : Vr) (v : List ℕ) → Part tag (leaf_by fate tag vr v)
 leaf_by_part Remove tag vr v = none_part tag

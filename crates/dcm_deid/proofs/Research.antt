@@ -2,6 +2,7 @@
 use Rattle.std.proofs.Common.{◌≡◌, ◌≢◌, ◌∙◌, ap, sym, refl, ℕ, ℤ, Bool, true, false, ◌&&◌, ◌||◌, not, ◌==◌, if◌then◌else◌, List, [], ◌∷◌, Option, Some, None, arith}
 use Rattle.std.specs.Prelude.{find}
 use Rattle.std.proofs.lemmas.Bool.Decides.{nat_tests}
+use Rattle.dcm_lemmas.proofs.Truth.{or_alike}
 use Rattle.dcm_base.specs.declared.tag.Tag.{Tag}
 use Rattle.dcm_base.specs.declared.vr.Vr.{Vr}
 use Rattle.dcm_base.specs.declared.vr.Vr.TheVariants.{DA, TM, DT, PN}
@@ -55,7 +56,7 @@ moved_of vr Replace = refl
 moved_of vr (Anew made) = refl
 moved_of vr Keep = moved_of_kept vr
 
-kept_of_kept : (vr : Vr) → kept_as false vr ≡ Keep
+pub kept_of_kept : (vr : Vr) → kept_as false vr ≡ Keep
 kept_of_kept DA = refl
 kept_of_kept DT = refl
 kept_of_kept vr = refl
@@ -66,9 +67,6 @@ unmoved vr Empty = refl
 unmoved vr Replace = refl
 unmoved vr (Anew made) = refl
 unmoved vr Keep = kept_of_kept vr
-
-either : (a b c d : Bool) → a ≡ b → c ≡ d → (a || c) ≡ (b || d)
-either a b c d e f = cc
 
 named : (b : Bool) (vr : Vr) (f g : Fate) → g ≡ then_moved vr f → (if b then Anew Pseudonym else g) ≡ then_moved vr (if b then Anew Pseudonym else f)
 named true vr f g e = refl
@@ -101,7 +99,7 @@ module _ (options : Options) (days : ℤ) where
 
   same_keeps : (retains : List Retain) → keeps full retains ≡ keeps moved retains
   same_keeps [] = refl
-  same_keeps (retain ∷ rest) = either (is_given full retain) (is_given moved retain) (keeps full rest) (keeps moved rest) (same_given retain) (same_keeps rest)
+  same_keeps (retain ∷ rest) = or_alike (is_given full retain) (is_given moved retain) (keeps full rest) (keeps moved rest) (same_given retain) (same_keeps rest)
 
   same_of_vr : (vr : Vr) → fate_of_vr full vr ≡ fate_of_vr moved vr
   same_of_vr DA = refl
@@ -190,7 +188,7 @@ put_anew false false true d f known e = refl
 put_anew false false false true f known e = refl
 put_anew false false false false f known e = absurd (cc)
 
-opaque_too : (b : Bool) (f : Fate) → f ≡ Remove → (if b then Remove else f) ≡ Remove
+pub opaque_too : (b : Bool) (f : Fate) → f ≡ Remove → (if b then Remove else f) ≡ Remove
 opaque_too true f e = refl
 opaque_too false f e = e
 

@@ -9,6 +9,7 @@ use Rattle.dcm_base.specs.declared.dictionary.Dictionary.TheVariants.{Standard}
 use Rattle.dcm_base.specs.Tables.Dictionary as D
 use Rattle.dcm_base.specs.Tables.Representation.{is_sequence}
 use Rattle.dcm_base.specs.Tree.Tree.{Trees, no_tree, leaf, sequence, Items, then_trees}
+use Rattle.dcm_deid.proofs.Research.{opaque_too}
 use Rattle.dcm_deid.specs.declared.fate.Fate.{Fate}
 use Rattle.dcm_deid.specs.declared.fate.Fate.TheVariants.{Remove, Keep}
 use Rattle.dcm_deid.specs.declared.fate.Options.{Options}
@@ -68,14 +69,10 @@ before_times o = (removed_stands, refl, (method_stands, refl, (codes_stand o, re
 
 -- ---- one of their tags goes
 
-goes_either_way : (b : Bool) (f : Fate) → f ≡ Remove → (if b then Remove else f) ≡ Remove
-goes_either_way true f e = refl
-goes_either_way false f e = e
-
 goes_as : (o : Options) (read : ReadAs) (tag : Tag) → fate o Outermost tag ≡ Remove → fate_as o Outermost read tag ≡ Remove
 unfolding fate_as
 goes_as o AsItems tag e = e
-goes_as o AsBytes tag e = goes_either_way (is_sequence (D.vr_in Standard tag)) (fate o Outermost tag) e
+goes_as o AsBytes tag e = opaque_too (is_sequence (D.vr_in Standard tag)) (fate o Outermost tag) e
 
 put_goes : (put known : Bool) (f : Fate) → put ≡ true → (if put || not known then Remove else f) ≡ Remove
 put_goes put known f e = rw e refl

@@ -2,16 +2,13 @@
 use Rattle.std.proofs.Common.{◌≡◌, ℕ, List, [], ◌∷◌, ◌++◌, fold, refl, sym, ◌∙◌, ap, subst, Option, Result, Ok, Err}
 use Rattle.std.specs.Prelude.{OnOk}
 use Rattle.std.specs.Io.KnownBytes.{append_known}
+use Rattle.dcm_lemmas.proofs.Lists.{fold_append}
 use Rattle.dcm_devices.specs.Device.{Puts, AppendsFront}
 use Rattle.dcm_base.specs.Steps.Atoms.{Atom}
 use Rattle.dcm_base.specs.Steps.Steps.{outputs, Goes}
 use Rattle.dcm_base.proofs.Writes.Runs.{outputs-append}
 use Rattle.dcm_deid.specs.DeidentifySink.{State, next, passed}
 use Rattle.dcm_deid.specs.Through.{through_step, through_writes}
-
-fold_append : {A B : Type 0} (f : A → B → A) (a : A) (xs ys : List B) → fold f a (xs ++ ys) ≡ fold f (fold f a xs) ys
-fold_append f a [] ys = refl
-fold_append f a (x ∷ xs) ys = fold_append f (f a x) xs ys
 
 module _ {T : Type 0} (step : T → Atom → T) (writes : T → Atom → List ℕ) where
   -- the state of both

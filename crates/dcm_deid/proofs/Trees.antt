@@ -7,3 +7,4 @@ pub mod Said
 pub mod Paired
 pub mod Known
 pub mod Instances
+pub mod Vanished

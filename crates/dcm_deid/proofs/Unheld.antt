@@ -29,7 +29,7 @@ abbrev behind : List ℕ → List Atom
 behind value = map value_byte value ++ closes_leaf ∷ []
 
 abbrev noted : Place → ℕ → Tag → Place
-noted p dropped tag = record { last = Some tag; outer = p.outer; dropped = dropped; held = None; may_show = p.may_show }
+noted p dropped tag = record { last = Some tag; outer = p.outer; dropped = dropped; held = None; seen = p.seen }
 
 module _ (options : Options) (key : List ℕ) (p : Place) (tag : Tag) (value : List ℕ) where
   abbrev noted_at : ℕ → State
@@ -146,7 +146,7 @@ module _ (options : Options) (key : List ℕ) (d : Deidentifier) (head : Head) (
   deeper = opened within.dropped true
 
   abbrev placed : ℕ → Option Held → Place
-  placed dropped held = record { last = Some head.tag; outer = within.outer; dropped = dropped; held = held; may_show = within.may_show }
+  placed dropped held = record { last = Some head.tag; outer = within.outer; dropped = dropped; held = held; seen = within.seen }
 
   judged_within : (n : ℕ) → 0 < n → with_last (judged_by_depth n options within head.tag head.vr head.length syntax) head.tag ≡ placed deeper within.held
   judged_within zero l = absurd (omega (arith, l))

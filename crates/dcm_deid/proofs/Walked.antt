@@ -11,18 +11,20 @@ use Rattle.dcm_base.specs.Bytes.Spelling.{form, read_as, last_tag}
 use Rattle.dcm_base.specs.Tree.Tree.{Trees, no_tree, leaf, sequence, fragments, Items, no_item, item, then_trees}
 use Rattle.dcm_base.specs.Tree.Value.{order}
 use Rattle.dcm_base.specs.Steps.Atoms.{Atom, opens, value_byte, closes_leaf, opens_item, closes_item, closes_sequence, fragments_then, ShowTrees, ShowItems}
+use Rattle.dcm_sinks.proofs.Dumps.OpenLists.{stays_bytes, stays_on, stays_same}
 use Rattle.dcm_sinks.specs.Laws.{StaysShallow}
 use Rattle.dcm_stream.specs.Tokens.{leaf_atoms}
 use Rattle.dcm_deid.specs.MadeNew.{made_new}
+use Rattle.dcm_deid.specs.declared.deidentifier.Seen.{Seen}
 use Rattle.dcm_deid.specs.declared.fate.Options.{Options}
 use Rattle.dcm_deid.specs.declared.fate.Depth.TheVariants.{Inside}
 use Rattle.dcm_deid.specs.declared.fate.ReadAs.TheVariants.{AsBytes, AsItems}
 use Rattle.dcm_deid.specs.Fate.{fate_as, are_left}
 use Rattle.dcm_deid.specs.Deidentify.{value_by, leaf_by, sequence_by, fragments_by, by_fate, items_by_fate}
 use Rattle.dcm_deid.specs.Saying.{tag_at, code_item, code_if, methods, said, dates_became, dates_code, dates_meaning}
-use Rattle.dcm_deid.specs.DeidentifySink.{depth_of, head_by, is_due, atoms_if, said_between, said_before, removed_due, method_due, codes_due, dates_due, code_atoms, code_atoms_if, method_atoms, methods_said, dates_said}
-use Rattle.dcm_deid.proofs.Dropped.{at, place_at, drop_items, drop_fragments, stays_tail, stays_here, stays_at, bytes_stay, head_stays, fragments_stay, trees_stay, items_stay, entered}
-use Rattle.dcm_deid.proofs.Kept.{out, out_any, head_out, judged_state, fate_here, leaf_shown, sequence_shown, fragments_shown}
+use Rattle.dcm_deid.specs.DeidentifySink.{nothing_seen, depth_of, head_by, is_due, atoms_if, said_between, said_before, removed_due, method_due, codes_due, dates_due, code_atoms, code_atoms_if, method_atoms, methods_said, dates_said}
+use Rattle.dcm_deid.proofs.Dropped.{at, place_at, drop_items, drop_fragments, stays_here, head_stays, fragments_stay, trees_stay, items_stay, entered}
+use Rattle.dcm_deid.proofs.Kept.{out, out_any, head_out, judged_state, fate_here, leaf_shown, sequence_shown, fragments_shown, leaf_then, shown_at}
 
 -- ---- what says what was done, as trees
 
@@ -48,9 +50,6 @@ one_leaf : (tag : Tag) (vr : Vr) (v : List ℕ) (x after : List Atom) → form L
 unfolding ShowTrees
 one_leaf tag vr v x after fo r more = (Little, x, fo, ap (λ (y : List Atom). opens tag vr (Known (length v)) Little ∷ y) (append_assoc (map value_byte v) (closes_leaf ∷ []) x), more)
 
-leaf_in : (tag : Tag) (vr : Vr) (v : List ℕ) (x : List Atom) → leaf_atoms tag vr v ++ x ≡ opens tag vr (Known (length v)) Little ∷ (map value_byte v ++ closes_leaf ∷ x)
-leaf_in tag vr v x = ap (λ (y : List Atom). opens tag vr (Known (length v)) Little ∷ y) (append_assoc (map value_byte v) (closes_leaf ∷ []) x)
-
 -- the items of codes
 code_shown : (code meaning : List ℕ) (rest : Items) (x after : List Atom) → ShowItems rest x after → ShowItems (code_item code meaning rest) (code_atoms code meaning ++ x) after
 unfolding ShowTrees form
@@ -69,13 +68,13 @@ code_shown code meaning rest x after more =
         Little,
         b ++ (c ++ end),
         refl,
-        leaf_in (tag_at 0x0008 0x0100) SH code (b ++ (c ++ end)),
+        leaf_then (tag_at 0x0008 0x0100) SH code (b ++ (c ++ end)),
         (
           Little,
           c ++ end,
           refl,
-          leaf_in (tag_at 0x0008 0x0102) SH (codes "DCM") (c ++ end),
-          (Little, end, refl, leaf_in (tag_at 0x0008 0x0104) LO meaning end, refl),
+          leaf_then (tag_at 0x0008 0x0102) SH (codes "DCM") (c ++ end),
+          (Little, end, refl, leaf_then (tag_at 0x0008 0x0104) LO meaning end, refl),
         ),
       ),
       more,
@@ -87,9 +86,6 @@ code_if_shown false code meaning rest x after more = more
 
 items_at : (t : Items) (x y after : List Atom) → x ≡ y → ShowItems t y after → ShowItems t x after
 items_at t x y after e h = subst (λ (z : List Atom). ShowItems t z after) (sym e) h
-
-trees_at : (t : Trees) (x y after : List Atom) → x ≡ y → ShowTrees t y after → ShowTrees t x after
-trees_at t x y after e h = subst (λ (z : List Atom). ShowTrees t z after) (sym e) h
 
 five : (a b c d e f x : List Atom) → (a ++ (b ++ (c ++ (d ++ (e ++ f))))) ++ x ≡ a ++ (b ++ (c ++ (d ++ (e ++ (f ++ x)))))
 five a b c d e f x =
@@ -165,13 +161,13 @@ between_shown o last next rest x after more =
     let x_d : List Atom = dates_due o last next ++ x in
     let x_c : List Atom = codes_due o last next ++ x_d in
     let x_b : List Atom = method_due o last next ++ x_c in
-    trees_at (then_if is_a tree_a rest_b) (said_between o last next ++ x) (removed_due o last next ++ x_b) after (three (removed_due o last next) (method_due o last next) (codes_due o last next) (dates_due o last next) x)
+    shown_at (then_if is_a tree_a rest_b) (said_between o last next ++ x) (removed_due o last next ++ x_b) after (three (removed_due o last next) (method_due o last next) (codes_due o last next) (dates_due o last next) x)
     (shown_if is_a tree_a rest_b a x_b after (one_leaf (tag_at 0x0012 0x0062) CS (codes "YES") x_b after refl)
     (shown_if is_b tree_b rest_c b x_c after (one_leaf (tag_at 0x0012 0x0063) LO method x_c after refl)
     (shown_if is_c tree_c rest_d (methods_said o) x_d after (codes_shown o x_d after)
     (shown_if is_d tree_d rest (dates_said o) x after (one_leaf (tag_at 0x0028 0x0303) CS dates x after refl) more))))
 
-pub gap_shown : (o : Options) (outer : List (Option Tag)) (last next : Option Tag) (d : ℕ) (m : Bool) (rest : Trees) (x after : List Atom) → ShowTrees rest x after
+pub gap_shown : (o : Options) (outer : List (Option Tag)) (last next : Option Tag) (d : ℕ) (m : Seen) (rest : Trees) (x after : List Atom) → ShowTrees rest x after
     → ShowTrees (gap o outer last next rest) (said_before o (place_at last outer d m) next ++ x) after
 gap_shown o [] last next d m rest x after more = between_shown o last next rest x after more
 gap_shown o (l ∷ outer) last next d m rest x after more = more
@@ -196,60 +192,60 @@ inside_written o k l outer last (sequence tag vr declared items rest) = ap (sequ
 inside_written o k l outer last (fragments tag vr values rest) = ap (fragments_by (fate_as o Inside AsBytes tag) tag vr values) (inside_written o k l outer (Some tag) rest)
 
 -- an element: what is put before it, its head, and what follows
-element_shown : (o : Options) (k : List ℕ) (last : Option Tag) (outer : List (Option Tag)) (m : Bool) (tag : Tag) (rest : Trees) (head x row after : List Atom)
+element_shown : (o : Options) (k : List ℕ) (last : Option Tag) (outer : List (Option Tag)) (m : Seen) (tag : Tag) (rest : Trees) (head x row after : List Atom)
     → row ≡ (said_before o (place_at last outer 0 m) (Some tag) ++ head) ++ x → ShowTrees rest (head ++ x) after → ShowTrees (gap o outer last (Some tag) rest) row after
 element_shown o k last outer m tag rest head x row after is more =
-    trees_at _ row _ after (is ∙ append_assoc (said_before o (place_at last outer 0 m) (Some tag)) head x) (gap_shown o outer last (Some tag) 0 m rest (head ++ x) after more)
+    shown_at _ row _ after (is ∙ append_assoc (said_before o (place_at last outer 0 m) (Some tag)) head x) (gap_shown o outer last (Some tag) 0 m rest (head ++ x) after more)
 
 mutual
   unfolding ShowTrees last_tag
 
-  pub trees_pass : (t : Trees) (lists : ℕ) (o : Options) (k : List ℕ) (last : Option Tag) (outer : List (Option Tag)) (m : Bool) (atoms after : List Atom)
-      → ShowTrees t atoms after → StaysShallow lists atoms → length outer ≡ lists → ShowTrees (written o k outer last t) (out (at o k last outer 0 m) atoms) (out (at o k (last_tag last t) outer 0 false) after)
-  trees_pass no_tree lists o k last outer m atoms after e h same = ap (out (at o k last outer 0 m)) e ∙ out_any o k last outer 0 m false after
+  pub trees_pass : (t : Trees) (lists : ℕ) (o : Options) (k : List ℕ) (last : Option Tag) (outer : List (Option Tag)) (m : Seen) (atoms after : List Atom)
+      → ShowTrees t atoms after → StaysShallow lists atoms → length outer ≡ lists → ShowTrees (written o k outer last t) (out (at o k last outer 0 m) atoms) (out (at o k (last_tag last t) outer 0 nothing_seen) after)
+  trees_pass no_tree lists o k last outer m atoms after e h same = ap (out (at o k last outer 0 m)) e ∙ out_any o k last outer 0 m nothing_seen after
   trees_pass (leaf tag vr value rest) lists o k last outer m atoms after (s, others, fo, is, more) h same =
-      let there = stays_tail lists closes_leaf others (bytes_stay lists (order s vr value) (closes_leaf ∷ others) (head_stays lists tag vr (Known (length value)) s a_value _ fo (stays_at lists atoms _ is h))) in
-      let end : List Atom = out (at o k (last_tag (Some tag) rest) outer 0 false) after in
+      let there = stays_on lists closes_leaf others (stays_bytes lists (order s vr value) (closes_leaf ∷ others) (head_stays lists tag vr (Known (length value)) s a_value _ fo (stays_same lists atoms _ is h))) in
+      let end : List Atom = out (at o k (last_tag (Some tag) rest) outer 0 nothing_seen) after in
       let row : List Atom = map value_byte (order s vr value) ++ closes_leaf ∷ others in
       let fate = fate_here o outer a_value tag in
       element_shown o k last outer m tag _ (head_by fate a_value tag vr (Known (length value)) s) (out (judged_state o k outer m tag vr s fate a_value) row) _ end
       (ap (out (at o k last outer 0 m)) is ∙ head_out o k last outer m tag vr (Known (length value)) s row a_value fo)
-      (leaf_shown o k outer m tag vr s others end (written o k outer (Some tag) rest) (trees_pass rest lists o k (Some tag) outer false others after more there same) fate value fo)
+      (leaf_shown o k outer m tag vr s others end (written o k outer (Some tag) rest) (trees_pass rest lists o k (Some tag) outer nothing_seen others after more there same) fate value fo)
   trees_pass (sequence tag vr declared items rest) lists o k last outer m atoms after (s, contents, others, fo, is, inner, more) h same =
-      let within = head_stays lists tag vr declared s a_sequence contents fo (stays_at lists atoms _ is h) in
-      let there = stays_tail (suc lists) closes_sequence others (items_stay items (suc lists) contents (closes_sequence ∷ others) inner within) in
-      let end : List Atom = out (at o k (last_tag (Some tag) rest) outer 0 false) after in
+      let within = head_stays lists tag vr declared s a_sequence contents fo (stays_same lists atoms _ is h) in
+      let there = stays_on (suc lists) closes_sequence others (items_stay items (suc lists) contents (closes_sequence ∷ others) inner within) in
+      let end : List Atom = out (at o k (last_tag (Some tag) rest) outer 0 nothing_seen) after in
       let fate = fate_here o outer a_sequence tag in
       element_shown o k last outer m tag _ (head_by fate a_sequence tag vr declared s) (out (judged_state o k outer m tag vr s fate a_sequence) contents) _ end
       (ap (out (at o k last outer 0 m)) is ∙ head_out o k last outer m tag vr declared s contents a_sequence fo)
-      (sequence_shown o k outer m tag vr s others end (written o k outer (Some tag) rest) (trees_pass rest lists o k (Some tag) outer false others after more there same) fate declared
+      (sequence_shown o k outer m tag vr s others end (written o k outer (Some tag) rest) (trees_pass rest lists o k (Some tag) outer nothing_seen others after more there same) fate declared
       (items_by_fate (fate_as o) (value_by (made_new o k)) items) contents fo
       (drop_items items (suc lists) o k (Some tag) outer 0 m contents (closes_sequence ∷ others) inner within (omega (arith, same)) (omega arith))
       (items_pass items (suc lists) o k (Some tag) outer m contents (closes_sequence ∷ others) inner within (omega (arith, same))))
   trees_pass (fragments tag vr values rest) lists o k last outer m atoms after (s, others, fo, is, more) h same =
-      let within = head_stays lists tag vr Undefined s a_fragment_list (fragments_then values (closes_sequence ∷ others)) fo (stays_at lists atoms _ is h) in
-      let there = stays_tail (suc lists) closes_sequence others (fragments_stay (suc lists) values (closes_sequence ∷ others) within) in
-      let end : List Atom = out (at o k (last_tag (Some tag) rest) outer 0 false) after in
+      let within = head_stays lists tag vr Undefined s a_fragment_list (fragments_then values (closes_sequence ∷ others)) fo (stays_same lists atoms _ is h) in
+      let there = stays_on (suc lists) closes_sequence others (fragments_stay (suc lists) values (closes_sequence ∷ others) within) in
+      let end : List Atom = out (at o k (last_tag (Some tag) rest) outer 0 nothing_seen) after in
       let row : List Atom = fragments_then values (closes_sequence ∷ others) in
       let fate = fate_here o outer a_fragment_list tag in
       element_shown o k last outer m tag _ (head_by fate a_fragment_list tag vr Undefined s) (out (judged_state o k outer m tag vr s fate a_fragment_list) row) _ end
       (ap (out (at o k last outer 0 m)) is ∙ head_out o k last outer m tag vr Undefined s row a_fragment_list fo)
-      (fragments_shown o k outer m tag vr s others end (written o k outer (Some tag) rest) (trees_pass rest lists o k (Some tag) outer false others after more there same) fate values fo
+      (fragments_shown o k outer m tag vr s others end (written o k outer (Some tag) rest) (trees_pass rest lists o k (Some tag) outer nothing_seen others after more there same) fate values fo
       (drop_fragments o k (Some tag) outer 0 m values (closes_sequence ∷ others) (omega arith)))
 
-  pub items_pass : (t : Items) (lists : ℕ) (o : Options) (k : List ℕ) (last : Option Tag) (outer : List (Option Tag)) (m : Bool) (atoms after : List Atom)
+  pub items_pass : (t : Items) (lists : ℕ) (o : Options) (k : List ℕ) (last : Option Tag) (outer : List (Option Tag)) (m : Seen) (atoms after : List Atom)
       → ShowItems t atoms after → StaysShallow lists atoms → suc (length outer) ≡ lists
-      → ShowItems (items_by_fate (fate_as o) (value_by (made_new o k)) t) (out (at o k last outer 0 m) atoms) (out (at o k last outer 0 false) after)
-  items_pass no_item lists o k last outer m atoms after e h same = ap (out (at o k last outer 0 m)) e ∙ out_any o k last outer 0 m false after
+      → ShowItems (items_by_fate (fate_as o) (value_by (made_new o k)) t) (out (at o k last outer 0 m) atoms) (out (at o k last outer 0 nothing_seen) after)
+  items_pass no_item lists o k last outer m atoms after e h same = ap (out (at o k last outer 0 m)) e ∙ out_any o k last outer 0 m nothing_seen after
   items_pass (item declared set rest) lists o k last outer m atoms after (contents, others, is, inner, more) h same =
       let most : lists ≤ 64 = stays_here lists atoms h in
-      let within = stays_tail lists (opens_item declared) contents (stays_at lists atoms _ is h) in
-      let there = stays_tail lists closes_item others (trees_stay set lists contents (closes_item ∷ others) inner within) in
+      let within = stays_on lists (opens_item declared) contents (stays_same lists atoms _ is h) in
+      let there = stays_on lists closes_item others (trees_stay set lists contents (closes_item ∷ others) inner within) in
       let mine : List Atom = out (at o k None (last ∷ outer) 0 m) contents in (
         mine,
-        out (at o k last outer 0 false) others,
+        out (at o k last outer 0 nothing_seen) others,
         ap (out (at o k last outer 0 m)) is ∙ ap (λ (s : _). opens_item Undefined ∷ out s contents) (entered o k last outer 0 m declared (omega (arith, same, most))),
-        subst (λ (t : Trees). ShowTrees t mine (closes_item ∷ out (at o k last outer 0 false) others)) (inside_written o k last outer None set)
+        subst (λ (t : Trees). ShowTrees t mine (closes_item ∷ out (at o k last outer 0 nothing_seen) others)) (inside_written o k last outer None set)
             (trees_pass set lists o k None (last ∷ outer) m contents (closes_item ∷ others) inner within (omega (arith, same))),
-        items_pass rest lists o k last outer false others after more there same,
+        items_pass rest lists o k last outer nothing_seen others after more there same,
       )

@@ -11,6 +11,7 @@ use Rattle.dcm_deid.specs.declared.fate.Temporal.TheVariants.{Removed, Full, Mod
 use Rattle.dcm_deid.specs.declared.fate.Depth.{Depth}
 use Rattle.dcm_deid.specs.Fate.{fate_as}
 use Rattle.dcm_deid.specs.Deidentify.{Renaming, by_fate}
+use Rattle.dcm_deid.specs.Emptied.{emptied}
 use Rattle.dcm_deid.specs.MadeNew.{left_of}
 
 -- what is asked of a value: nothing of one that is taken, of one that is made anew what has an influence
@@ -34,6 +35,12 @@ moved_by days (Modified other) = Modified days
 abbrev pub moving : Options → (days : ℤ) → Options
 moving options days = record options { dates = moved_by days options.dates }
 
--- two data sets differ only in what is taken, where the dates of one are moved by d days, and of the other by e
-abbrev pub Alike : Options → Depth → (d e : ℤ) → Trees → Trees → Type 0
-Alike options depth d e f g = struck (moving options d) depth f ≡ struck (moving options e) depth g
+-- how many dates have nothing left
+abbrev pub vanished : Options → Depth → Trees → ℕ
+vanished options depth set = emptied (fate_as options) (left_of options) depth set
+
+-- two data sets differ only in what is taken, where the dates of one are moved by d days, and of the other by e; and as
+-- many dates of both have nothing left, which is told
+pub record Alike (options : Options) (depth : Depth) (d e : ℤ) (f g : Trees) : Type 0 where
+  pub same_left : struck (moving options d) depth f ≡ struck (moving options e) depth g
+  pub same_vanished : vanished (moving options d) depth f ≡ vanished (moving options e) depth g

@@ -1,5 +1,5 @@
 -- Identity taken out in one pass over the atoms of a data set.
-use Rattle.std.specs.Prelude.{ℕ, zero, suc, nat_lt, length, List, [], ◌∷◌, ◌++◌, codes, Option, Some, None}
+use Rattle.std.specs.Prelude.{ℕ, zero, suc, ◌+◌, nat_lt, length, List, [], ◌∷◌, ◌++◌, codes, Option, Some, None}
 use Rattle.std.specs.Prelude.{option_map, fold, Bool, true, false, ◌&&◌, ◌||◌, not, if◌then◌else◌}
 use Rattle.dcm_base.specs.declared.tag.Tag.{Tag}
 use Rattle.dcm_base.specs.declared.vr.Vr.{Vr}
@@ -18,6 +18,8 @@ use Rattle.dcm_base.specs.Bytes.Spelling.{form, read_as}
 use Rattle.dcm_base.specs.Reading.Bars.{holds_identity}
 use Rattle.dcm_base.specs.Steps.Atoms.{Atom, opens, value_byte, closes_leaf, opens_item, closes_item, closes_sequence}
 use Rattle.dcm_base.specs.Steps.Atoms.{opens_fragment, ends}
+use Rattle.dcm_dates.specs.Moved.{MOST_HELD, moved as moved_dates}
+use Rattle.dcm_dates.specs.declared.moving.DateKind.TheVariants.{Da, Dt}
 use Rattle.dcm_head.specs.declared.head.Head.{Head}
 use Rattle.dcm_stream.specs.declared.token.Bar.{Bar as SinkBar}
 use Rattle.dcm_stream.specs.declared.token.Bar.TheVariants.{Order, Identity}
@@ -25,14 +27,18 @@ use Rattle.dcm_stream.specs.Skip.{opened, closed}
 use Rattle.dcm_stream.specs.Tokens.{leaf_atoms}
 use Rattle.dcm_deid.specs.declared.fate.Fate.{Fate}
 use Rattle.dcm_deid.specs.declared.fate.Fate.TheVariants.{Empty, Replace, Anew, Keep}
+use Rattle.dcm_deid.specs.declared.fate.NewValue.{NewValue}
+use Rattle.dcm_deid.specs.declared.fate.NewValue.TheVariants.{MovedDate, MovedDateTime}
 use Rattle.dcm_deid.specs.declared.fate.Options.{Options}
 use Rattle.dcm_deid.specs.declared.fate.Depth.{Depth}
 use Rattle.dcm_deid.specs.declared.fate.Depth.TheVariants.{Outermost, Inside}
 use Rattle.dcm_deid.specs.declared.fate.ReadAs.{ReadAs}
 use Rattle.dcm_deid.specs.declared.fate.ReadAs.TheVariants.{AsBytes, AsItems}
 use Rattle.dcm_deid.specs.Fate.{are_full, are_left, fate_as, is_kept}
+use Rattle.dcm_deid.specs.declared.deidentifier.Seen.{Seen}
 use Rattle.dcm_deid.specs.Deidentify.{Renaming, dummy}
-use Rattle.dcm_deid.specs.MadeNew.{made_new}
+use Rattle.dcm_deid.specs.Emptied.{has_bytes, is_moved}
+use Rattle.dcm_deid.specs.MadeNew.{days_of, made_new}
 use Rattle.dcm_deid.specs.Saying.{dates_became, dates_code, dates_meaning, tag_at}
 use Rattle.dcm_deid.specs.Pixels.{says_of_pixels, means_yes}
 
@@ -46,10 +52,6 @@ pub record Held : Type 0 where
   pub syntax : Syntax
   pub bytes : List ℕ
   pub is_longer : Bool
-
--- the most bytes that are held
-abbrev pub MOST_HELD : ℕ
-MOST_HELD = 256
 
 abbrev pub nothing_held : Fate → Tag → Vr → Syntax → Held
 nothing_held fate tag vr syntax = record { fate = fate; tag = tag; vr = vr; syntax = syntax; bytes = []; is_longer = false }
@@ -83,17 +85,41 @@ new_of new h = if h.is_longer then [] else made_of new h.fate h.vr (ordered h)
 abbrev pub is_yes : Held → Bool
 is_yes h = not h.is_longer && means_yes (ordered h)
 
+-- whether moved dates are nothing
+abbrev pub come_to_nothing : Options → NewValue → List ℕ → Bool
+come_to_nothing options MovedDate dates = not (has_bytes (moved_dates Da (days_of options.dates) dates))
+come_to_nothing options MovedDateTime dates = not (has_bytes (moved_dates Dt (days_of options.dates) dates))
+come_to_nothing options _ dates = false
+
+-- whether dates that have more than padding vanish
+abbrev pub vanish : Options → NewValue → List ℕ → Bool
+vanish options made value = has_bytes (without_pads value) && come_to_nothing options made (without_pads value)
+
+-- so they do where they are longer than is held
+abbrev pub vanish_by : Options → Fate → (is_longer : Bool) → List ℕ → Bool
+vanish_by options (Anew made) is_longer value = is_moved made && (is_longer || vanish options made value)
+vanish_by options _ is_longer value = false
+
+abbrev pub is_emptied : Options → Held → Bool
+is_emptied options h = vanish_by options h.fate h.is_longer (ordered h)
+
 -- ---- where the sink is
 
+-- no more are counted
+abbrev pub MOST_COUNTED : ℕ
+MOST_COUNTED = 18446744073709551615
+
+abbrev pub counted : (is_one : Bool) → ℕ → ℕ
+counted is_one count = if is_one && nat_lt count MOST_COUNTED then count + 1 else count
+
 -- the last tags of the innermost open data set and of those around it, how much is open of an element that is not
--- written, the value of an open element that is held until it ends, and whether a value that was written says that the
--- pixels may show identity
+-- written, the value of an open element that is held until it ends, and what was seen of values that ended
 pub record Place : Type 0 where
   pub last : Option Tag
   pub outer : List (Option Tag)
   pub dropped : ℕ
   pub held : Option Held
-  pub may_show : Bool
+  pub seen : Seen
 
 pub record State : Type 0 where
   pub options : Options
@@ -104,8 +130,11 @@ pub record State : Type 0 where
 abbrev pub MOST_AROUND : ℕ
 MOST_AROUND = 64
 
+abbrev pub nothing_seen : Seen
+nothing_seen = record { may_show = false; emptied = 0 }
+
 abbrev pub first_place : Place
-first_place = record { last = None; outer = []; dropped = 0; held = None; may_show = false }
+first_place = record { last = None; outer = []; dropped = 0; held = None; seen = nothing_seen }
 
 -- before the first atom
 abbrev pub begun : Options → (key : List ℕ) → State
@@ -137,11 +166,11 @@ is_held _ _ tag = false
 
 abbrev pub moved : Place → (last : Option Tag) → (outer : List (Option Tag)) → (dropped : ℕ) → Place
 moved p last outer dropped =
-    record { last = last; outer = outer; dropped = dropped; held = p.held; may_show = p.may_show }
+    record { last = last; outer = outer; dropped = dropped; held = p.held; seen = p.seen }
 
 abbrev pub holding : Place → Option Held → Place
 holding p held =
-    record { last = p.last; outer = p.outer; dropped = p.dropped; held = held; may_show = p.may_show }
+    record { last = p.last; outer = p.outer; dropped = p.dropped; held = held; seen = p.seen }
 
 abbrev pub held_if : Bool → Fate → Tag → Vr → Syntax → Option Held
 held_if is_held fate tag vr s = if is_held then Some (nothing_held fate tag vr s) else None
@@ -185,14 +214,30 @@ says_yes zero None = false
 says_yes zero (Some h) = is_yes h
 says_yes (suc n) held = false
 
-abbrev pub after_value : Place → Place
-after_value p =
+-- where dates that were moved have nothing left
+abbrev pub seeing : (is_one : Bool) → Seen → Seen
+seeing is_one seen = record { may_show = seen.may_show; emptied = counted is_one seen.emptied }
+
+abbrev pub counting : Place → (is_one : Bool) → Place
+counting p is_one =
+    record { last = p.last; outer = p.outer; dropped = p.dropped; held = p.held; seen = seeing is_one p.seen }
+
+-- what was seen, with a value that ends
+abbrev pub seen_after : Options → (dropped : ℕ) → Option Held → Seen → Seen
+seen_after options dropped None seen = seen
+seen_after options dropped (Some h) seen = record {
+  may_show = says_yes dropped (Some h) || seen.may_show;
+  emptied = counted (is_emptied options h) seen.emptied;
+}
+
+abbrev pub after_value : Options → Place → Place
+after_value options p =
     record {
       last = p.last;
       outer = p.outer;
       dropped = closed p.dropped;
       held = None;
-      may_show = says_yes p.dropped p.held || p.may_show;
+      seen = seen_after options p.dropped p.held p.seen;
     }
 
 abbrev pub in_item : Place → Place
@@ -205,7 +250,7 @@ after_item p (last ∷ outer) = moved p last outer (closed p.dropped)
 abbrev pub next_place : Options → Place → Atom → Place
 next_place options p (opens tag vr declared s) = after_head options p tag vr declared s
 next_place options p (value_byte byte) = with_byte p byte
-next_place options p closes_leaf = after_value p
+next_place options p closes_leaf = after_value options p
 next_place options p (opens_item declared) = in_item p
 next_place options p closes_item = after_item p p.outer
 next_place options p closes_sequence = moved p p.last p.outer (closed p.dropped)

@@ -26,7 +26,7 @@ place d = record {
   outer = reverse d.outermost_first.items;
   dropped = depth d.skip;
   held = option_map held d.held;
-  may_show = d.may_show;
+  seen = d.seen;
 }
 
 abbrev pub state : Options → (key : List ℕ) → Deidentifier → State

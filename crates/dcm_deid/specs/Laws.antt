@@ -1,5 +1,5 @@
 -- The statements of the laws of the sink.
-use Rattle.std.specs.Prelude.{ℕ, List, Option, fold, ◌≡◌}
+use Rattle.std.specs.Prelude.{ℕ, ◌≤◌, List, Option, fold, ◌≡◌}
 use Rattle.dcm_base.specs.Tree.Front.{Front}
 use Rattle.dcm_base.specs.Tree.Tree.{Trees}
 use Rattle.dcm_base.specs.Lines.Ascending.{FrontAscends}
@@ -13,7 +13,8 @@ use Rattle.dcm_base.specs.Reading.Bars.{identity_bar}
 use Rattle.dcm_stream.specs.Driven.{bars_by}
 use Rattle.dcm_sinks.specs.Laws.{StaysShallow}
 use Rattle.dcm_deid.specs.declared.fate.Options.{Options}
-use Rattle.dcm_deid.specs.DeidentifySink.{begun, next, passed, deidentify_bar}
+use Rattle.dcm_deid.specs.DeidentifySink.{MOST_COUNTED, begun, next, passed, deidentify_bar}
+use Rattle.dcm_deid.specs.Emptied.{dates_emptied}
 use Rattle.dcm_deid.specs.MadeNew.{made_new}
 use Rattle.dcm_deid.specs.Pixels.{may_show}
 use Rattle.dcm_deid.specs.Saying.{deidentified, read_whole, whole_of}
@@ -39,5 +40,12 @@ abbrev pub PixelSteps : Type 0
 PixelSteps =
     (options : Options) (key : List ℕ) (reached : Option Tag) (set : Trees) (atoms : List Atom)
     → StaysShallow 0 atoms → Shows (read_whole reached set) atoms
-    → (fold next (begun options key) atoms).place.may_show
+    → (fold next (begun options key) atoms).place.seen.may_show
     ≡ may_show (whole_of (deidentified options (made_new options key) (read_whole reached set)))
+
+-- after a data set, whole or as far as it was read, the sink knows how many dates were emptied
+abbrev pub DateSteps : Type 0
+DateSteps =
+    (options : Options) (key : List ℕ) (f : Front) (atoms : List Atom) → StaysShallow 0 atoms → Shows f atoms
+    → dates_emptied options (made_new options key) f ≤ MOST_COUNTED
+    → (fold next (begun options key) atoms).place.seen.emptied ≡ dates_emptied options (made_new options key) f

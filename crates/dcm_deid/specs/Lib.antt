@@ -9,6 +9,7 @@ pub mod Remains
 pub mod Saying
 pub mod Pairs
 pub mod Pixels
+pub mod Emptied
 pub mod DeidentifySink
 pub mod Deidentifying
 pub mod Patient

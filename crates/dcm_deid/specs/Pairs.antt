@@ -1,5 +1,5 @@
 -- Data sets whose elements pair off, but for what is taken out of them.
-use Rattle.std.specs.Prelude.{◌≡◌, ℕ, List}
+use Rattle.std.specs.Prelude.{◌≡◌, ℕ, List, true}
 use Rattle.dcm_base.specs.declared.tag.Tag.{Tag}
 use Rattle.dcm_base.specs.declared.vr.Vr.{Vr}
 use Rattle.dcm_base.specs.declared.length.Length.{Length}
@@ -7,18 +7,24 @@ use Rattle.dcm_base.specs.Tree.Tree.{Trees, no_tree, leaf, sequence, fragments, 
 use Rattle.dcm_base.specs.Tables.Transfer.{without_pads}
 use Rattle.dcm_deid.specs.declared.fate.Fate.{Fate}
 use Rattle.dcm_deid.specs.declared.fate.Fate.TheVariants.{Remove, Empty, Replace, Anew, Keep}
+use Rattle.dcm_deid.specs.declared.fate.NewValue.{NewValue}
 use Rattle.dcm_deid.specs.declared.fate.Depth.{Depth}
 use Rattle.dcm_deid.specs.declared.fate.Depth.TheVariants.{Inside}
 use Rattle.dcm_deid.specs.declared.fate.ReadAs.{ReadAs}
 use Rattle.dcm_deid.specs.declared.fate.ReadAs.TheVariants.{AsBytes, AsItems}
 use Rattle.dcm_deid.specs.Deidentify.{Fates, Renaming}
+use Rattle.dcm_deid.specs.Emptied.{has_bytes, is_moved}
+
+-- of two values of dates that are moved, both or none have more than padding
+abbrev pub BothHaveBytes : NewValue → (v w : List ℕ) → Type 0
+BothHaveBytes made v w = is_moved made ≡ true → has_bytes (without_pads v) ≡ has_bytes (without_pads w)
 
 -- what is asked of two values: nothing where they are taken, of those that are made anew that the same has an influence
 abbrev pub SameValue : (one other : Renaming) → Fate → List ℕ → List ℕ → Type 0
 SameValue one other Remove v w = ⊥
 SameValue one other Empty v w = Unit {0}
 SameValue one other Replace v w = Unit {0}
-SameValue one other (Anew made) v w = one made (without_pads v) ≡ other made (without_pads w)
+SameValue one other (Anew made) v w = (one made (without_pads v) ≡ other made (without_pads w)) × BothHaveBytes made v w
 SameValue one other Keep v w = v ≡ w
 
 -- the items of two sequences are asked for where they are kept

@@ -29,15 +29,24 @@ const RECOGNIZABLE: Tag = Tag {
     element: 0x0302,
 };
 
+/// What was seen of values that ended.
+#[derive(Clone, Copy, Debug, PartialEq, Eq)]
+pub struct Seen {
+    /// Whether one that was written says that the pixels may show identity.
+    pub may_show: bool,
+    /// How many were of dates that were moved, and had nothing left.
+    pub emptied: u64,
+}
+
 /// The last tag of each open data set, what is open of an element that is not written, the value of an open element
-/// that is held until it ends, and whether a value that was written says that the pixels may show identity.
+/// that is held until it ends, and what was seen of values that ended.
 #[derive(Drop)]
 pub struct Deidentifier {
     pub last: Option<Tag>,
     pub outermost_first: ArrayVec<Option<Tag>, MOST_AROUND>,
     pub skip: Skip,
     pub held: Option<HeldValue>,
-    pub may_show: bool,
+    pub seen: Seen,
 }
 
 /// What follows the head of an element.
@@ -76,6 +85,17 @@ pub fn is_held(fate: Fate, form: Form, tag: Tag) -> bool
     }
 }
 
+/// One more where something is counted, as far as there is room.
+fn counted(is_one: bool, count: u64) -> u64
+    ensures { result ≡ spec.counted is_one count }
+{
+    if is_one && count < u64::MAX {
+        count + 1
+    } else {
+        count
+    }
+}
+
 impl Deidentifier {
     /// Before the first token of an input.
     pub fn new() -> Deidentifier
@@ -86,7 +106,10 @@ impl Deidentifier {
             outermost_first: ArrayVec::new(),
             skip: Skip::nothing(),
             held: None,
-            may_show: false,
+            seen: Seen {
+                may_show: false,
+                emptied: 0,
+            },
         }
     }
 
@@ -206,13 +229,32 @@ impl Deidentifier {
         }
     }
 
-    /// After the end of a value.
-    fn close_value(&mut self)
-        ensures { deidentifying.place self.new ≡ spec.after_value (deidentifying.place self.old) }
+    /// What was seen, with the open value, which ends.
+    fn seen_after(&self, options: &Options) -> Seen
+        ensures { result ≡ spec.seen_after options.now (depth self.now.skip) (deidentifying.place self.now).held
+            self.now.seen }
     {
-        if self.shows() {
-            self.may_show = true;
+        match &self.held {
+            Some(held) => Seen {
+                may_show: self.shows() || self.seen.may_show,
+                emptied: counted(held.is_emptied(options), self.seen.emptied),
+            },
+            None => self.seen,
         }
+    }
+
+    /// Counts dates that were moved and have nothing left.
+    pub fn count(&mut self, is_one: bool)
+        ensures { deidentifying.place self.new ≡ spec.counting (deidentifying.place self.old) is_one }
+    {
+        self.seen.emptied = counted(is_one, self.seen.emptied);
+    }
+
+    /// After the end of a value.
+    fn close_value(&mut self, options: &Options)
+        ensures { deidentifying.place self.new ≡ spec.after_value options.now (deidentifying.place self.old) }
+    {
+        self.seen = self.seen_after(options);
         self.let_go();
         self.skip.close();
     }
@@ -247,7 +289,7 @@ impl Deidentifier {
         match token {
             Token::Open(head, syntax) => self.open(options, head, syntax),
             Token::Bytes(bytes) => self.add(bytes),
-            Token::CloseLeaf => self.close_value(),
+            Token::CloseLeaf => self.close_value(options),
             Token::OpenItem(_) => self.open_item(),
             Token::CloseItem => self.close_item(),
             Token::CloseSeq => self.skip.close(),

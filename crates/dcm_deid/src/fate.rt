@@ -2,6 +2,7 @@ ghost use Rattle.std.specs.Prelude.{◌≡◌, ◌<◌, map, find, option_map, �
 ghost use Rattle.std.specs.List.{list_any};
 ghost use Rattle.std.specs.List.Sorted.{IsStrictlyIncreasing};
 ghost use Rattle.dcm_base.specs.Tables.Tag.{tag_number};
+ghost use Rattle.dcm_deid.specs.Emptied as emptied;
 ghost use Rattle.dcm_deid.specs.Fate as spec;
 ghost use Rattle.dcm_deid.specs.Marks as marking;
 
@@ -44,6 +45,15 @@ pub enum NewValue {
     MovedDate,
     /// Dates with times, which are moved.
     MovedDateTime,
+}
+
+impl NewValue {
+    /// Whether its dates are moved.
+    pub fn is_moved(self) -> bool
+        ensures { result ≡ emptied.is_moved self }
+    {
+        matches!(self, NewValue::MovedDate | NewValue::MovedDateTime)
+    }
 }
 
 /// What becomes of an element.

@@ -6,14 +6,12 @@ ghost use Rattle.dcm_deid.specs.Deidentifying.{held};
 ghost use Rattle.dcm_deid.specs.MadeNew.{made_new};
 
 use crate::fate::{Fate, Options};
-use crate::key::UidKey;
+use crate::key::{UidKey, vanish};
 use arrayvec::ArrayVec;
 use dcm_base::{Syntax, Tag, Vr};
+use dcm_dates::MOST_HELD;
 use dcm_head::{is_pad, without_pads};
 use dcm_value::swap;
-
-/// The most bytes that are held: 64 characters of a PatientID (PS3.5 6.2) have up to four each.
-pub const MOST_HELD: usize = 256;
 
 /// The value of an open element, and what becomes of it: its first bytes, and whether it is longer, its padding aside.
 #[derive(Drop)]
@@ -94,6 +92,17 @@ impl HeldValue {
             return ArrayVec::new();
         };
         key.made_whole(options, made, self.vr, self.ordered().as_slice())
+    }
+
+    /// Whether it is of dates that are moved, has more than padding, and nothing takes its place.
+    pub fn is_emptied(&self, options: &Options) -> bool
+        ensures { result ≡ spec.is_emptied options.now (held self.now) }
+    {
+        let made = match self.fate {
+            Fate::Anew(made) => made,
+            _ => return false,
+        };
+        made.is_moved() && (self.is_longer || vanish(options, made, self.ordered().as_slice()))
     }
 
     /// Whether it is YES.

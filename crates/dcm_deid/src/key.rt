@@ -3,15 +3,15 @@ ghost use Rattle.std.specs.Prelude.{◌≡◌, ◌≤◌, length};
 ghost use Rattle.dcm_base.specs.Tables.Transfer.{without_pads};
 ghost use Rattle.dcm_uid.specs.Hmac.{IsKey};
 ghost use Rattle.dcm_uid.specs.Uid as spec;
+ghost use Rattle.dcm_deid.specs.DeidentifySink as sink;
 ghost use Rattle.dcm_deid.specs.DeidentifySink.{made_of};
 ghost use Rattle.dcm_deid.specs.MadeNew as making;
 ghost use Rattle.dcm_deid.specs.declared.fate.Fate.TheVariants.{Anew};
 
 use crate::fate::{NewValue, Options, Temporal};
-use crate::held::MOST_HELD;
 use arrayvec::ArrayVec;
 use dcm_base::Vr;
-use dcm_dates::{DateKind, moved};
+use dcm_dates::{DateKind, MOST_HELD, moved};
 use dcm_head::without_pads;
 use dcm_uid::{Key, new_value, pseudonym};
 
@@ -38,6 +38,26 @@ fn days_of(dates: Temporal) -> i32
         Temporal::Removed | Temporal::Full => 0,
         Temporal::Modified(days) => days,
     }
+}
+
+/// Whether moved dates are nothing.
+fn come_to_nothing(options: &Options, made: NewValue, dates: &[u8]) -> bool
+    ensures { result ≡ sink.come_to_nothing options.now made dates.now }
+{
+    let days = days_of(options.dates);
+    match made {
+        NewValue::Uid | NewValue::Pseudonym => false,
+        NewValue::MovedDate => moved(DateKind::Da, days, dates).is_empty(),
+        NewValue::MovedDateTime => moved(DateKind::Dt, days, dates).is_empty(),
+    }
+}
+
+/// Whether dates that have more than padding vanish.
+pub fn vanish(options: &Options, made: NewValue, value: &[u8]) -> bool
+    ensures { result ≡ sink.vanish options.now made value.now }
+{
+    let dates = without_pads(value);
+    !dates.is_empty() && come_to_nothing(options, made, dates)
 }
 
 /// The bytes of a key, and what was prepared of them once.

@@ -22,7 +22,7 @@ ghost use Rattle.dcm_base.specs.Tables.Dictionary.{vr_in};
 ghost use Rattle.dcm_base.specs.Tables.Representation.{is_sequence};
 ghost use Rattle.dcm_base.specs.declared.dictionary.Dictionary.TheVariants.{Standard};
 ghost use Rattle.dcm_deid.specs.declared.fate.Fate.TheVariants.{Keep, Remove};
-ghost use Rattle.dcm_deid.specs.Laws.{BarSteps, DeidentifySteps, PixelSteps};
+ghost use Rattle.dcm_deid.specs.Laws.{BarSteps, DateSteps, DeidentifySteps, PixelSteps};
 ghost use Rattle.dcm_deid.specs.Pairs.{Pairs};
 ghost use Rattle.dcm_deid.specs.Remains.{AreMadeAnew, IsClean, kept_of};
 ghost use Rattle.dcm_deid.specs.Research.{OthersBecomeTheSame, PatientsGetPseudonyms};
@@ -95,6 +95,12 @@ pub fn deidentify_steps()
 /// was passed on says so.
 pub fn pixel_steps()
     ensures { PixelSteps }
+{}
+
+/// After a data set, whole or as far as it was read, the sink knows how many dates were emptied. Such a date is a value
+/// that is moved, has more than padding, and has nothing in its place.
+pub fn dates_are_counted()
+    ensures { DateSteps }
 {}
 
 /// What stays has a tag of the dictionary, and if it was read as bytes it is no sequence there.

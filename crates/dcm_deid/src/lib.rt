@@ -3,7 +3,8 @@
 //! - `fate_of` says what becomes of an element, by `Options`, its `Depth` and its tag as read: a `Fate`. `ACTIONS` is
 //!   table E.1-1 of PS3.15 (2021b), and what is added where it leaves identity behind.
 //! - `DeidentifySink` lies between the machine and another sink. It passes on what is left of the tokens, in a state of
-//!   fixed size, bars what it cannot clean, and `pixels_may_show` says what pixels say of themselves.
+//!   fixed size, bars what it cannot clean, `pixels_may_show` says what pixels say of themselves, and `dates_emptied` how
+//!   many dates vanished.
 //! - `MetaWithoutIdentity` and `meta_fate` say what stays of the head of a file, and `NO_PREAMBLE` is its new preamble.
 //! - `PatientSink` takes the tokens up to the patient, whose `Naming` then says by which days dates are moved.
 //! - `laws` has what is gone, what stays, and that nothing of what is taken out flows.

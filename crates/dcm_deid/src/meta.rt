@@ -1,7 +1,7 @@
 // What stays of a meta group where identity is taken out of its file.
 ghost use Rattle.std.specs.Prelude.{◌≡◌, ◌&&◌, ◌≤◌, length};
 ghost use Rattle.dcm_deid.specs.Meta as spec;
-ghost use Rattle.dcm_deid.specs.Meta.{meta_renewing};
+ghost use Rattle.dcm_deid.specs.Meta.{implementation, meta_renewing};
 
 use crate::fate::Options;
 use crate::key::UidKey;
@@ -22,14 +22,18 @@ pub enum MetaFate {
     Uid,
 }
 
-/// What becomes of a meta element: the version, the class and the instance, the transfer syntax, and the implementation
-/// stay.
+/// The implementation that writes the file, this tool's (PS3.10 7.1, PS3.15 E.1): ImplementationClassUID (0002,0012) and
+/// ImplementationVersionName (0002,0013), as they are written.
+const IMPLEMENTATION: [u8; 68] =
+    *b"\x02\0\x12\0UI\x2C\x002.25.313428391727201999114611669686557106709\x02\0\x13\0SH\x08\0DCMTOOLS";
+
+/// What becomes of a meta element: the version of the group, the class and the instance, and the transfer syntax stay.
 pub fn meta_fate(options: &Options, tag: Tag) -> MetaFate
     ensures { result ≡ spec.meta_fate options.now tag }
 {
     match (tag.group, tag.element) {
         (META_GROUP, 0x0003) if !options.uids => MetaFate::Uid,
-        (META_GROUP, 0x0001..=0x0003 | 0x0010 | 0x0012 | 0x0013) => MetaFate::Keep,
+        (META_GROUP, 0x0001..=0x0003 | 0x0010) => MetaFate::Keep,
         _ => MetaFate::Remove,
     }
 }
@@ -57,11 +61,17 @@ impl<'a> MetaWithoutIdentity<'a> {
 impl<'a> Renewal for MetaWithoutIdentity<'a> {
     ghost renewing = { λ self. meta_renewing self.options self.key.bytes.now };
 
+    ghost own = { λ self. implementation };
+
     fn renew(&self, element: MetaElement<'_>) -> Renewed {
         match meta_fate(&self.options, element.tag) {
             MetaFate::Remove => Renewed::Gone,
             MetaFate::Keep => Renewed::Same,
             MetaFate::Uid => Renewed::New(self.key.new_value(element.value)),
         }
+    }
+
+    fn own_elements(&self) -> &[u8] {
+        &IMPLEMENTATION
     }
 }

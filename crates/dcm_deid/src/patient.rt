@@ -8,10 +8,11 @@ ghost use Rattle.dcm_stream.specs.Tokens.{atoms_of};
 
 use crate::deidentifier::{Deidentifier, form_after};
 use crate::fate::{Depth, Fate, Options, PATIENT_ID, Temporal};
-use crate::held::{HeldValue, MOST_HELD};
+use crate::held::HeldValue;
 use crate::sink::holds_identity;
 use arrayvec::ArrayVec;
 use dcm_base::{Form, Syntax, Tag, Vr, WriteFailed};
+use dcm_dates::MOST_HELD;
 use dcm_head::Head;
 use dcm_stream::{Bar, Sink, Skip, Token};
 use dcm_uid::patient;

@@ -292,9 +292,16 @@ impl<'a, S: Sink> DeidentifySink<'a, S> {
 
     /// Whether a value that was written says that the pixels show identity.
     pub fn pixels_may_show(&self) -> bool
-        ensures { result ≡ (deidentifying.place self.now.place).may_show }
+        ensures { result ≡ (deidentifying.place self.now.place).seen.may_show }
     {
-        self.place.may_show
+        self.place.seen.may_show
+    }
+
+    /// How many values of dates that were moved have nothing left. As many as fit are counted.
+    pub fn dates_emptied(&self) -> u64
+        ensures { result ≡ (deidentifying.place self.now.place).seen.emptied }
+    {
+        self.place.seen.emptied
     }
 
     /// Takes an element with its whole value by its tokens, one after another. It is not inlined: of few elements a

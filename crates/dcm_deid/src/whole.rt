@@ -5,6 +5,7 @@ ghost use Rattle.dcm_base.specs.Tables.Syntax.{is_big};
 ghost use Rattle.dcm_deid.specs.declared.fate.Fate.TheVariants.{Anew};
 ghost use Rattle.dcm_deid.specs.DeidentifySink as spec;
 ghost use Rattle.dcm_deid.specs.Deidentifying as deidentifying;
+ghost use Rattle.dcm_deid.specs.Emptied as emptied;
 ghost use Rattle.dcm_stream.specs.Sinks as sinks;
 ghost use Rattle.dcm_stream.specs.Skip.{depth};
 ghost use Rattle.dcm_deid.specs.Noting.{NotesFailed, Told, head_put, value_put};
@@ -16,7 +17,7 @@ use crate::key::UidKey;
 use crate::said::put_leaf;
 use crate::sink::{put_gap, put_head};
 use dcm_base::{Form, Syntax, WriteFailed};
-use dcm_head::Head;
+use dcm_head::{Head, without_pads};
 use dcm_stream::{Sink, WholeFailed};
 
 /// Passes on what becomes of an element of this fate, whose value nobody has to know. All that comes of one that is not
@@ -104,6 +105,13 @@ fn put_in_place<S: Sink>(
     put_leaf(tag, head.vr, new, sink)
 }
 
+/// Whether a value is of dates that are moved, has more than padding, and this is nothing, which is written of it.
+fn is_emptied(made: NewValue, value: &[u8], written: &[u8]) -> bool
+    ensures { result ≡ emptied.is_emptied made value.now written.now }
+{
+    made.is_moved() && !without_pads(value).is_empty() && written.is_empty()
+}
+
 /// Passes on what is made of the whole value of an element in little endian, and goes on after it. It is read where it
 /// is: by its tokens it would be copied, held until its end, and copied again. It is not inlined, as few elements are
 /// made anew. The syntax is for the contract alone.
@@ -128,5 +136,6 @@ pub fn pass_anew<S: Sink>(
         (deidentifying.GoesOn options.now place.old place.new (whole_atoms head syntax value.now)) }
 {
     let new = key.made_whole(options, made, head.vr, value);
+    place.count(is_emptied(made, value, new.as_slice()));
     put_in_place(options, place, head, new.as_slice(), sink)
 }

@@ -3,6 +3,7 @@ use Rattle.std.proofs.Common.{◌≡◌, ◌≢◌, ◌∙◌, ap, sym, refl, su
 use Rattle.std.specs.Prelude.{◌==◌, nat_lt, not, ◌&&◌}
 use Rattle.std.proofs.lemmas.Bool.Decides.{nat_tests}
 use Rattle.std.proofs.lemmas.List.{nil_from_length}
+use Rattle.dcm_lemmas.proofs.Truth.{and_last_false}
 use Rattle.dcm_base.specs.declared.syntax.Syntax.{Syntax}
 use Rattle.dcm_base.specs.declared.syntax.Syntax.TheVariants.{Implicit as implicit_in, Little as little_in, Big as big_in}
 use Rattle.dcm_base.specs.declared.tag.Tag.{Tag}
@@ -60,13 +61,8 @@ short_even : (n : ℕ) (b : Bool) → nat_lt 65534 (even n) ≡ b → n ≤ 256 
 short_even n true e h = let more : 65534 < even n = grind (arith, nat_tests, e) in absurd (omega (arith, more))
 short_even n false e h = refl
 
-not_long : (a b : Bool) → (a && (b && false)) ≡ false
-not_long true true = refl
-not_long true false = refl
-not_long false b = refl
-
 short_fits : (s : Syntax) (vr : Vr) (n : ℕ) → n ≤ 256 → too_long s vr n ≡ false
-short_fits s vr n h = ap (λ (b : Bool). is_explicit s && (not (is_long vr) && b)) (short_even n (nat_lt 65534 (even n)) refl h) ∙ not_long (is_explicit s) (not (is_long vr))
+short_fits s vr n h = ap (λ (b : Bool). is_explicit s && (not (is_long vr) && b)) (short_even n (nat_lt 65534 (even n)) refl h) ∙ and_last_false (is_explicit s) (not (is_long vr))
 
 -- they keep their representation
 pub short_vr : (s : Syntax) (t : Tag) (vr : Vr) (n : ℕ) → n ≤ 256 → IsNamed s t vr → normal_vr s t vr n ≡ vr

@@ -1,5 +1,5 @@
 -- The elements that stay of a meta group can be written, and name the same transfer syntax.
-use Rattle.std.proofs.Common.{◌≡◌, ◌∙◌, ap, sym, refl, ℕ, ◌≤◌, List, length, Bool, true, false, ◌||◌, Option, None, Some, arith, if◌then◌else◌, ◌≢◌, ◌==◌}
+use Rattle.std.proofs.Common.{◌≡◌, ◌∙◌, ap, sym, subst, refl, ℕ, ◌≤◌, List, length, Bool, true, false, ◌||◌, Option, None, Some, arith, if◌then◌else◌, ◌≢◌, ◌==◌, ◌⊎◌, inl, inr}
 use Rattle.dcm_base.specs.declared.length.Length.TheVariants.{Known}
 use Rattle.dcm_base.specs.declared.tag.Tag.{Tag}
 use Rattle.dcm_base.specs.declared.vr.Vr.{Vr}
@@ -21,7 +21,7 @@ use Rattle.dcm_uid.proofs.NewUids.{replaced_short}
 use Rattle.dcm_deid.specs.declared.fate.Options.{Options}
 use Rattle.dcm_deid.specs.declared.meta.MetaFate.{MetaFate}
 use Rattle.dcm_deid.specs.declared.meta.MetaFate.TheVariants.{Remove, Keep, Uid}
-use Rattle.dcm_deid.specs.Meta.{meta_fate, meta_renewing, stays, value_by_fate}
+use Rattle.dcm_deid.specs.Meta.{implementation, meta_fate, meta_renewing, stays, value_by_fate}
 
 known_form : (vr : Vr) (n m : ℕ) → form Little vr (Known n) ≡ form Little vr (Known m)
 unfolding form
@@ -33,15 +33,15 @@ unfolding new_value
 new_short key v = replaced_short key (without_pads v)
 
 -- the transfer syntax stays
-stays_by : (a b c d e : Bool) (other : MetaFate) → c ≡ true → (if a || b || c || d || e then Keep else other) ≡ Keep
-stays_by true b true d e other h = refl
-stays_by false true true d e other h = refl
-stays_by false false true d e other h = refl
-stays_by a b false d e other h = absurd (let no : false ≡ true = h in cc)
+stays_by : (a b c : Bool) (other : MetaFate) → c ≡ true → (if a || b || c then Keep else other) ≡ Keep
+stays_by true b true other h = refl
+stays_by false true true other h = refl
+stays_by false false true other h = refl
+stays_by a b false other h = absurd (let no : false ≡ true = h in cc)
 
 module _ (options : Options) (key : List ℕ) where
   abbrev left : Trees → Trees
-  left x = renewed (meta_renewing options key) x
+  left x = renewed (meta_renewing options key) implementation x
 
   leaf_can : (fate : MetaFate) (t : Tag) (vr : Vr) (v : List ℕ) (rest more : Trees) → CanWrite (leaf t vr v rest) → CanWrite more → CanWrite (leaf_if (value_by_fate fate key v) t vr more)
   unfolding CanWrite
@@ -51,9 +51,13 @@ module _ (options : Options) (key : List ℕ) where
       let short = new_short key v in
       (h.0, h.1, omega (arith, short), known_form vr (length (new_value key v)) (length v) ∙ h.3, k)
 
+  own_can : CanWrite implementation
+  unfolding CanWrite form
+  own_can = (refl, (omega arith, omega arith), omega arith, refl, (refl, (omega arith, omega arith), omega arith, refl, tt))
+
   can : (x : Trees) → CanWrite x → CanWrite (left x)
   unfolding CanWrite
-  can no_tree h = tt
+  can no_tree h = own_can
   can (leaf t vr v rest) h = leaf_can (meta_fate options t) t vr v rest (left rest) h (can rest h.4)
   can (sequence t vr declared items rest) h = h
   can (fragments t vr values rest) h = h
@@ -65,7 +69,7 @@ module _ (options : Options) (key : List ℕ) where
 
   are_meta : (x : Trees) → AreMeta x → AreMeta (left x)
   unfolding AreMeta
-  are_meta no_tree h = tt
+  are_meta no_tree h = (refl, (refl, tt))
   are_meta (leaf t vr v rest) h = leaf_meta (meta_renewing options key t vr v) t vr (left rest) h.0 (are_meta rest h.1)
   are_meta (sequence t vr declared items rest) h = h
   are_meta (fragments t vr values rest) h = h
@@ -81,28 +85,29 @@ module _ (options : Options) (key : List ℕ) where
   same_syntax no_tree = refl
   same_syntax (leaf t vr v rest) =
       value_by (meta_renewing options key t vr v) (is_tag 2 0x10 t) t vr v (left rest) rest refl
-      (λ e. ap (λ (fate : MetaFate). value_by_fate fate key v) (stays_by (is_tag 2 1 t) (is_tag 2 2 t) (is_tag 2 0x10 t) (is_tag 2 0x12 t) (is_tag 2 0x13 t) _ e)) (same_syntax rest)
+      (λ e. ap (λ (fate : MetaFate). value_by_fate fate key v) (stays_by (is_tag 2 1 t) (is_tag 2 2 t) (is_tag 2 0x10 t) _ e)) (same_syntax rest)
   same_syntax (sequence t vr declared items rest) = same_syntax rest
   same_syntax (fragments t vr values rest) = same_syntax rest
 
   pub left_group : (x : Trees) → IsGroup x → IsGroup (left x)
   left_group x g = record { can = can x g.can; meta = are_meta x g.meta; some = λ none. g.some (sym (same_syntax x) ∙ none) }
 
--- ---- where unique identifiers are retained, all that is left stays
+-- ---- where unique identifiers are retained, all that is left stays, and the tool's own elements take their own place
 
 module _ (options : Options) (key : List ℕ) where
   abbrev again : Trees → Trees
-  again x = renewed (meta_renewing options key) x
+  again x = renewed (meta_renewing options key) implementation x
 
   abbrev AllStay : Trees → Type 0
-  AllStay no_tree = Unit {0}
-  AllStay (leaf t vr v rest) = (meta_fate options t ≡ Keep) × AllStay rest
+  AllStay no_tree = ⊥
+  AllStay (leaf t vr v rest) = ((meta_fate options t ≡ Keep) × AllStay rest) ⊎ (leaf t vr v rest ≡ implementation)
   AllStay (sequence t vr declared items rest) = AllStay rest
   AllStay (fragments t vr values rest) = AllStay rest
 
   pub they_stay : (x : Trees) → AllStay x → again x ≡ x
-  they_stay no_tree h = refl
-  they_stay (leaf t vr v rest) h = ap (λ (fate : MetaFate). leaf_if (value_by_fate fate key v) t vr (again rest)) h.0 ∙ ap (leaf t vr v) (they_stay rest h.1)
+  they_stay no_tree h = absurd h
+  they_stay (leaf t vr v rest) (inl h) = ap (λ (fate : MetaFate). leaf_if (value_by_fate fate key v) t vr (again rest)) h.0 ∙ ap (leaf t vr v) (they_stay rest h.1)
+  they_stay (leaf t vr v rest) (inr own) = ap again own ∙ sym own
   they_stay (sequence t vr declared items rest) h = ap (sequence t vr declared items) (they_stay rest h)
   they_stay (fragments t vr values rest) h = ap (fragments t vr values) (they_stay rest h)
 
@@ -111,23 +116,26 @@ module _ (options : Options) (key : List ℕ) where
   either_stays false x y h k = k
 
   without_syntax_stays : (x : Trees) → AllStay x → AllStay (without_syntax x)
-  without_syntax_stays no_tree h = tt
-  without_syntax_stays (leaf t vr v rest) h = let more = without_syntax_stays rest h.1 in either_stays (is_tag 2 0x10 t) _ _ more (h.0, more)
+  without_syntax_stays no_tree h = absurd h
+  without_syntax_stays (leaf t vr v rest) (inl h) = let more = without_syntax_stays rest h.1 in either_stays (is_tag 2 0x10 t) _ _ more (inl (h.0, more))
+  without_syntax_stays (leaf t vr v rest) (inr own) = subst (λ (x : Trees). AllStay (without_syntax x)) (sym own) (inr refl)
   without_syntax_stays (sequence t vr declared items rest) h = without_syntax_stays rest h
   without_syntax_stays (fragments t vr values rest) h = without_syntax_stays rest h
 
   pub with_syntax_stays : (uid : List ℕ) (x : Trees) → AllStay x → AllStay (with_syntax uid x)
-  with_syntax_stays uid no_tree h = tt
-  with_syntax_stays uid (leaf t vr v rest) h = either_stays (is_tag 2 0x10 t) _ _ (h.0, without_syntax_stays rest h.1) (h.0, with_syntax_stays uid rest h.1)
+  with_syntax_stays uid no_tree h = absurd h
+  with_syntax_stays uid (leaf t vr v rest) (inl h) = either_stays (is_tag 2 0x10 t) _ _ (inl (h.0, without_syntax_stays rest h.1)) (inl (h.0, with_syntax_stays uid rest h.1))
+  with_syntax_stays uid (leaf t vr v rest) (inr own) = subst (λ (x : Trees). AllStay (with_syntax uid x)) (sym own) (inr refl)
   with_syntax_stays uid (sequence t vr declared items rest) h = with_syntax_stays uid rest h
   with_syntax_stays uid (fragments t vr values rest) h = with_syntax_stays uid rest h
 
-  pub normal_stays : (s : Syntax) (x : Trees) → AllStay x → AllStay (normal s x)
+  pub normal_stays : (x : Trees) → AllStay x → AllStay (normal Little x)
   unfolding normal
-  normal_stays s no_tree h = tt
-  normal_stays s (leaf t vr v rest) h = let more = normal_stays (after s t (normal_vr s t vr (length v)) (normal_value s t vr v)) rest h.1 in either_stays (t.element == 0) _ _ more (h.0, more)
-  normal_stays s (sequence t vr declared items rest) h = let more = normal_stays s rest h in either_stays (t.element == 0) _ _ more more
-  normal_stays s (fragments t vr values rest) h = let more = normal_stays s rest h in either_stays (t.element == 0) _ _ more more
+  normal_stays no_tree h = absurd h
+  normal_stays (leaf t vr v rest) (inl h) = let more = normal_stays rest h.1 in either_stays (t.element == 0) _ _ more (inl (h.0, more))
+  normal_stays (leaf t vr v rest) (inr own) = subst (λ (x : Trees). AllStay (normal Little x)) (sym own) (inr refl)
+  normal_stays (sequence t vr declared items rest) h = let more = normal_stays rest h in either_stays (t.element == 0) _ _ more more
+  normal_stays (fragments t vr values rest) h = let more = normal_stays rest h in either_stays (t.element == 0) _ _ more more
 
   module _ (given : options.uids ≡ true) where
     kept_or : (a b c : Bool) → c ≡ true → (if a then Keep else if b then (if c then Keep else Uid) else Remove) ≢ Uid
@@ -138,15 +146,15 @@ module _ (options : Options) (key : List ℕ) where
 
     leaf_stays : (fate : MetaFate) (t : Tag) (vr : Vr) (v : List ℕ) (rest : Trees) → meta_fate options t ≡ fate → fate ≢ Uid → AllStay rest → AllStay (leaf_if (value_by_fate fate key v) t vr rest)
     leaf_stays Remove t vr v rest e other h = h
-    leaf_stays Keep t vr v rest e other h = (e, h)
+    leaf_stays Keep t vr v rest e other h = inl (e, h)
     leaf_stays Uid t vr v rest e other h = absurd (other refl)
 
     pub left_stays : (x : Trees) → AllStay (again x)
-    left_stays no_tree = tt
+    left_stays no_tree = inr refl
     left_stays (leaf t vr v rest) = leaf_stays (meta_fate options t) t vr v (again rest) refl (kept_or (stays t) (is_tag 2 3 t) options.uids given) (left_stays rest)
     left_stays (sequence t vr declared items rest) = left_stays rest
     left_stays (fragments t vr values rest) = left_stays rest
 
     -- what is left of the group that reads back
     pub group_again : (uid : List ℕ) (x : Trees) → again (elements_again (again x) uid) ≡ normal Little (with_syntax uid (again x))
-    group_again uid x = they_stay (normal Little (with_syntax uid (again x))) (normal_stays Little (with_syntax uid (again x)) (with_syntax_stays uid (again x) (left_stays x)))
+    group_again uid x = they_stay (normal Little (with_syntax uid (again x))) (normal_stays (with_syntax uid (again x)) (with_syntax_stays uid (again x) (left_stays x)))

@@ -16,13 +16,14 @@ use Rattle.dcm_base.specs.Tree.Value.{order}
 use Rattle.dcm_base.specs.Bytes.Head.{head_size, tag_at, vr_at, length_at}
 use Rattle.dcm_base.specs.Reading.Place.{depth, passes, room}
 use Rattle.dcm_base.specs.Bytes.Spelling.{form, inside, last_tag, after, read_as}
-use Rattle.dcm_base.specs.Reading.Stop.{Stop, complete, refused, HeadBar, barred, opens_list, with_length, first_case, has_no_form, element_stop, head_stop, innermost_stop, or_else}
+use Rattle.dcm_base.specs.Reading.Stop.{Stop, complete, refused, HeadBar, barred, opens_list, with_length, first_case, has_no_form, element_stop, head_stop, innermost_stop}
 use Rattle.dcm_base.specs.Reading.Bars.{identity_bar, no_bar, target_bar}
 use Rattle.dcm_base.specs.Reading.Reads.{INPUT_LIMIT, Reads}
 use Rattle.dcm_base.specs.Conversion.Normal.{whole_front}
 use Rattle.dcm_base.specs.Steps.Atoms.{Atom, value_byte, closes_leaf, closes_item, closes_sequence, ends, fragments_then, front_atoms, trees_then, items_then}
 use Rattle.dcm_base.proofs.DataSets.OneAnswer.{reads_once}
 use Rattle.dcm_base.proofs.DataSets.OwnSyntax.{own_reads}
+use Rattle.dcm_editor_laws.proofs.ReadBack.RisingReads.{after_alike, case_alike, third_false}
 use Rattle.dcm_stream.specs.Ascending.{reached_after, innermost}
 use Rattle.dcm_stream.specs.Follows.{BarsAs}
 use Rattle.dcm_stream.specs.Reading.{Reading, start_of, Opened, settled, full_closed, element_opens, plain_opens, head_opens, head_read, byte_read, read_byte, reads_byte, read_all, finish, end_shows}
@@ -83,22 +84,8 @@ free tag vr declared = None
 abbrev barring : Option Tag → HeadBar
 barring last tag vr declared = barred_at last tag
 
-case_alike : (t : Bool) (stop : Stop) (a b : Option Stop) (P : Type 0) → ((b ≡ None → P) → a ≡ b) → ((if t then Some stop else b) ≡ None → P) → (if t then Some stop else a) ≡ (if t then Some stop else b)
-case_alike true stop a b P h k = refl
-case_alike false stop a b P h k = h k
-
 last_alike : (position : ℕ) (o : Option Fault) → (first_case (barred None position) ≡ None → o ≡ None) → first_case (barred o position) ≡ first_case (barred None position)
 last_alike position o k = ap (λ (x : Option Fault). first_case (barred x position)) (k refl)
-
-after_alike : (before a b : Option Stop) (P : Type 0) → ((b ≡ None → P) → a ≡ b) → (or_else before b ≡ None → P) → or_else before a ≡ or_else before b
-after_alike None a b P h k = h k
-after_alike (Some stop) a b P h k = refl
-
-third_false : (a b c : Bool) (x y z : Stop) (more : Option Stop) → (if a then Some x else (if b then Some y else (if c then Some z else more))) ≡ None → c ≡ false
-third_false true b c x y z more e = absurd (cc)
-third_false false true c x y z more e = absurd (cc)
-third_false false false true x y z more e = absurd (cc)
-third_false false false false x y z more e = refl
 
 element_free : (st : List (Option Tag)) (f : Form) (s : Syntax) (tag : Tag) (vr : Vr) (l : Length) (begin : ℕ) (around : List Level) → has_no_form f ≡ false → Free st (element_opens f s tag vr l begin around).atoms → barred_at (innermost st) tag ≡ None
 element_free st a_value s tag vr l begin around e h = h.0

@@ -1,17 +1,19 @@
 -- The representations of an implicit data set are those of the dictionary.
 use Rattle.std.proofs.Common.{◌≡◌, ◌∙◌, ap, sym, refl, subst, ℕ, List, [], ◌∷◌, length, take, Bool, true, false, if◌then◌else◌}
 use Rattle.std.specs.Prelude.{bytes_eq}
+use Rattle.dcm_base.proofs.DataSets.Shown.{enclosed_shown}
+use Rattle.dcm_editor_laws.proofs.Readers.Hidden.{still_explicit}
+use Rattle.dcm_lemmas.proofs.Options.{some_same}
 use Rattle.dcm_base.specs.declared.dictionary.Dictionary.{Dictionary}
 use Rattle.dcm_base.specs.declared.dictionary.Dictionary.TheVariants.{Extract, Standard, Signed}
 use Rattle.dcm_base.specs.declared.length.Length.{Length}
-use Rattle.dcm_base.specs.declared.length.Length.TheVariants.{Known, Undefined}
 use Rattle.dcm_base.specs.declared.syntax.Syntax.{Syntax}
 use Rattle.dcm_base.specs.declared.syntax.Syntax.TheVariants.{Implicit as implicit_in, Little as little_in, Big as big_in}
 use Rattle.dcm_base.specs.declared.tag.Tag.{Tag}
 use Rattle.dcm_base.specs.declared.vr.Vr.{Vr}
 use Rattle.dcm_base.specs.declared.vr.Vr.TheVariants.{UN}
 use Rattle.dcm_base.specs.Bytes.Head.{ElementHead, tag_at, vr_at}
-use Rattle.dcm_base.specs.Bytes.Spelling.{Enclosed, ItemsAt, TreesAt, after, dictionary_after, inside, is_one, says_sign, sign_after}
+use Rattle.dcm_base.specs.Bytes.Spelling.{ItemsAt, TreesAt, after, dictionary_after, inside, is_one, says_sign, sign_after}
 use Rattle.dcm_base.specs.Conversion.Normal.{normal_value, normal_vr}
 use Rattle.dcm_base.specs.Conversion.Recode.{is_explicit}
 use Rattle.dcm_base.specs.Tables.Dictionary.{if_signed, vr_in}
@@ -21,7 +23,6 @@ use Rattle.dcm_base.specs.Tables.Tag.{item_end_tag, sequence_end_tag}
 use Rattle.dcm_base.specs.Tree.Tree.{Trees, no_tree, leaf, sequence, fragments, Items, no_item, item}
 use Rattle.dcm_base.specs.Tree.Value.{evened}
 use Rattle.dcm_base.proofs.Conversions.NormalForm.{evened_same, evened_size, own_dictionary}
-use Rattle.dcm_base.proofs.DataSets.Heads.{some_same}
 
 -- an implicit head leaves a representation to the dictionary
 abbrev pub IsNamed : Syntax → Tag → Vr → Type 0
@@ -46,15 +47,10 @@ explicit_one (implicit_in d) t vr is = absurd (cc)
 explicit_one (little_in d) t vr is = tt
 explicit_one (big_in d) t vr is = tt
 
-explicit_by : (d : Dictionary) (s : Syntax) → is_explicit s ≡ true → is_explicit (read_by d s) ≡ true
-explicit_by d (implicit_in e) is = absurd (cc)
-explicit_by d (little_in e) is = refl
-explicit_by d (big_in e) is = refl
-
 mutual
   pub explicit_named : (s : Syntax) (x : Trees) → is_explicit s ≡ true → AreNamed s x
   explicit_named s no_tree is = tt
-  explicit_named s (leaf t vr v rest) is = (explicit_one s t vr is, explicit_named (after s t vr v) rest (explicit_by (dictionary_after (dictionary_of s) t vr v) s is))
+  explicit_named s (leaf t vr v rest) is = (explicit_one s t vr is, explicit_named (after s t vr v) rest (still_explicit (dictionary_after (dictionary_of s) t vr v) s is))
   explicit_named s (sequence t vr declared items rest) is = (explicit_items s items is, explicit_named s rest is)
   explicit_named s (fragments t vr parts rest) is = explicit_named s rest is
 
@@ -73,10 +69,6 @@ unfolding inside
 still_implicit d UN = refl
 still_implicit d vr = refl
 
-enclosed_so : (s : Syntax) (end_tag : Tag) (declared : Length) (R : List ℕ → List ℕ → Type 0) (c e : List ℕ) (P : Type 0) → ((b p : List ℕ) → R b p → P) → Enclosed s end_tag declared R c e → P
-enclosed_so s end_tag (Known size) R c e P so (i, ci, li, r) = so i [] r
-enclosed_so s end_tag Undefined R c e P so (d, r, x) = so c d r
-
 mutual
   unfolding TreesAt
 
@@ -84,7 +76,7 @@ mutual
   implicit_named d no_tree b p h = tt
   implicit_named d (leaf t vr v rest) b p (others, fo, head, more) = (by_dictionary d t vr _ b _ head, implicit_named (dictionary_after d t vr v) rest others p more)
   implicit_named d (sequence t vr declared items rest) b p (contents, others, fo, head, inner, more) = (
-    enclosed_so (inside (implicit_in d) vr) sequence_end_tag declared (ItemsAt (inside (implicit_in d) vr) items) contents others (ItemsAreNamed (implicit_in d) items)
+    enclosed_shown (inside (implicit_in d) vr) sequence_end_tag declared (ItemsAt (inside (implicit_in d) vr) items) contents others (ItemsAreNamed (implicit_in d) items)
         (λ c q r. implicit_items d items c q (subst (λ (s : Syntax). ItemsAt s items c q) (still_implicit d vr) r)) inner,
     implicit_named d rest others p more,
   )
@@ -93,7 +85,7 @@ mutual
   implicit_items : (d : Dictionary) (x : Items) (b p : List ℕ) → ItemsAt (implicit_in d) x b p → ItemsAreNamed (implicit_in d) x
   implicit_items d no_item b p h = tt
   implicit_items d (item declared set rest) b p (contents, others, head, inner, more) =
-      (enclosed_so (implicit_in d) item_end_tag declared (TreesAt (implicit_in d) set) contents others (AreNamed (implicit_in d) set) (λ c q r. implicit_named d set c q r) inner, implicit_items d rest others p more)
+      (enclosed_shown (implicit_in d) item_end_tag declared (TreesAt (implicit_in d) set) contents others (AreNamed (implicit_in d) set) (λ c q r. implicit_named d set c q r) inner, implicit_items d rest others p more)
 
 pub spelled_named : (s : Syntax) (x : Trees) (b p : List ℕ) → TreesAt s x b p → AreNamed s x
 spelled_named (implicit_in d) x b p h = implicit_named d x b p h

@@ -24,6 +24,7 @@ use Rattle.dcm_base.specs.Tables.Transfer.{without_pads}
 use Rattle.dcm_base.specs.Tree.Tree.{Trees, no_tree, leaf, sequence, fragments, Items, no_item, item, then_trees}
 use Rattle.dcm_base.specs.Tree.Value.{evened}
 use Rattle.dcm_base.proofs.Conversions.NormalForm.{evened_size}
+use Rattle.dcm_editor_laws.proofs.Words.WordsReady.{no_sequence}
 use Rattle.dcm_sinks.proofs.ReadBack.HasRoom.{IsElement, AreShort, Ready, ReadyItems}
 use Rattle.dcm_sinks.proofs.ReadBack.Sources.{spelled_no_sequence}
 use Rattle.dcm_editor_laws.proofs.ReadBack.Plain.{plain}
@@ -50,10 +51,6 @@ value_known : (s : Syntax) (vr : Vr) (n : ℕ) → vr ≢ SQ → form s vr (Know
 unfolding form
 value_known s SQ n h = absurd (h refl)
 value_known s _ n h = refl
-
-pub no_sequence : (vr : Vr) → is_sequence vr ≡ false → vr ≢ SQ
-no_sequence SQ e = absurd (cc)
-no_sequence vr e = λ k. (let one : is_sequence vr ≡ true = ap is_sequence k in cc)
 
 -- of a tag that the dictionary calls no sequence
 pub read_known : (d : Dictionary) (t : Tag) (vr : Vr) → d ≡ Standard → is_sequence (vr_in Standard t) ≡ false → read_in d t vr ≡ vr

@@ -1,5 +1,6 @@
 -- What a device over a reader or a writer of the standard library answers: what one call on that answered.
-use Rattle.std.specs.Prelude.{◌≡◌, ℕ, List, ◌++◌, length, Result, Ok, Err, MatchResult, IfOk, IfErr, OnOk, OnErr}
+use Rattle.std.specs.Prelude.{◌≡◌, ℕ, ◌<◌, List, ◌++◌, length, slice_index, Option, Some, None, Result, Ok, Err}
+use Rattle.std.specs.Prelude.{MatchResult, IfOk, IfErr, OnOk, OnErr}
 use Rattle.std.specs.IoError.{error_kind}
 use Rattle.std.specs.declared.io.ErrorKind.TheVariants.{OutOfMemory}
 use Rattle.std.specs.declared.io.Error.{Error}
@@ -22,6 +23,11 @@ any_flush before r after = Unit {0}
 abbrev pub TakesAll : (before bytes : List ℕ) → Result ℕ Error → (after : List ℕ) → Type 0
 TakesAll before bytes r after = IfOk r (λ n. n ≡ length bytes) × OnOk r (after ≡ before ++ bytes)
     × IfErr r (λ e. error_kind e ≡ OutOfMemory) × OnErr r (after ≡ before)
+
+-- what a call gave, if anything, are bytes
+abbrev pub IsOfBytes : Option (List ℕ) → Type 0
+IsOfBytes None = Unit {0}
+IsOfBytes (Some bytes) = (i : ℕ) → slice_index bytes i < 256
 
 -- the reader was called once. Its answer is given, and the device fails only where it was an error
 abbrev pub ReadOnce : {T : Type 0} → (may_read : T → Result ℕ Error → List ℕ → T → Type 0)

@@ -2,12 +2,12 @@
 use Rattle.std.proofs.Common.{◌≡◌, ◌∙◌, ap, sym, subst, refl, ℕ, ◌≤◌, List, [], ◌∷◌, ◌++◌, append-nil, length, Bool, true, false, Option, Some, None, Result, Ok, Err}
 use Rattle.std.specs.Prelude.{IfSome}
 use Rattle.std.specs.declared.io.Error.{Error}
+use Rattle.dcm_lemmas.proofs.Options.{known_nothing}
 use Rattle.dcm_devices.specs.declared.device.WriteFailed.{WriteFailed}
 use Rattle.dcm_devices.specs.declared.memory.MemIn.{MemIn}
 use Rattle.dcm_devices.specs.declared.memory.MemOut.{MemOut}
 use Rattle.dcm_devices.specs.declared.memory.Measured.{Measured}
 use Rattle.std.specs.Io.KnownBytes.{append_known}
-use Rattle.dcm_devices.proofs.Writes.Puts.{append_known_none}
 use Rattle.dcm_devices.specs.Memory.{written, size, room_of}
 use Rattle.dcm_files.specs.declared.memory.MemSystem.{MemSystem}
 use Rattle.dcm_files.specs.declared.opened.FileKind.{FileKind}
@@ -84,7 +84,7 @@ module _ (s : MemSystem) (h : Showing) where
         subst (Left t last errors from to) (sym is)
             (subst (λ (x : Texts). All x last errors from to DEVICE) (sym c.0)
             (record {
-              grown = ap (λ (x : Shown Measured). held x.out) same ∙ sym (append_known_none (held from.out));
+              grown = ap (λ (x : Shown Measured). held x.out) same ∙ sym (known_nothing (held from.out));
               fine = ap (λ (x : Shown Measured). x.out.out.failed) same;
               told = told_of errors (unopened_line path) line;
               status_is = refl;
@@ -207,7 +207,7 @@ module _ (s new : MemSystem) (errors new_errors : MemOut) (status : ℕ) (words 
         before = out.device.out;
         after = output.out;
         room_is = is.0;
-        output_is = ap (λ (z : MemSystem). z.written) closes;
+        output_is = ap (λ (z : MemSystem). z.written) closes.call.1;
         bytes_are = grew (size out.device.out) (size output.out) (written out.device.out) (written output.out) c.0.text x.grown;
       } in
       subst Leaves (sym c.2) (leave (spec.dumped c.0) took x.told x.status_is)

@@ -2,11 +2,12 @@
 use Rattle.std.proofs.Common.{◌≡◌, ◌∙◌, ap, sym, subst, refl, ℕ, ◌<◌, ◌≤◌, List, [], ◌∷◌, ◌++◌, length, length-append, arith, Bool, true, false, Option, Some, None, Result, Ok, Err}
 use Rattle.std.specs.Prelude.{max, IfOk}
 use Rattle.std.specs.Io.KnownBytes.{append_known}
+use Rattle.dcm_lemmas.proofs.Numbers.{max_same}
+use Rattle.dcm_lemmas.proofs.Options.{known_nothing, known_twice}
 use Rattle.dcm_devices.specs.declared.device.WriteFailed.{WriteFailed}
 use Rattle.dcm_devices.specs.declared.memory.MemIn.{MemIn}
 use Rattle.dcm_devices.specs.declared.memory.Measured.{Measured}
 use Rattle.dcm_devices.specs.Device.{AppendsFront}
-use Rattle.dcm_devices.proofs.Writes.Puts.{append_known_none, append_known_twice}
 use Rattle.dcm_files.specs.declared.memory.MemSystem.{MemSystem}
 use Rattle.dcm_files.specs.declared.opened.FileKind.{FileKind}
 use Rattle.dcm_files.specs.declared.opened.FileKind.TheVariants.{Regular, Directory, Other, Unknown}
@@ -55,13 +56,10 @@ abbrev pub Left : Texts → Place → Change → (from to : Shown Measured) → 
 Left t last errors from to (Ok status) = All t last errors from to status
 Left t last errors from to (Err failure) = Less t from to
 
-max_same : (a b c d m : ℕ) → m ≡ max a c → a ≡ b → c ≡ d → m ≡ max b d
-max_same a b c d m e f g = e ∙ (λ i. max (f i) (g i))
-
 pub all_then : (a b : Texts) (middle last : Place) (whole first second : Change) (from mid to : Shown Measured) (m n k : ℕ) → All a middle first from mid n → All b last second mid to k → Follows whole first second → m ≡ max n k
     → All (and_texts a b) last whole from to m
 all_then a b middle last whole first second from mid to m n k x y follows is = record {
-  grown = y.grown ∙ ap (λ (h : Option (List ℕ)). append_known h b.text) x.grown ∙ append_known_twice (held from.out) a.text b.text;
+  grown = y.grown ∙ ap (λ (h : Option (List ℕ)). append_known h b.text) x.grown ∙ known_twice (held from.out) a.text b.text;
   fine = y.fine ∙ x.fine;
   told = told_then whole first second follows a.lines b.lines x.told y.told;
   status_is = max_same n a.status k b.status m is x.status_is y.status_is;
@@ -72,7 +70,7 @@ all_then a b middle last whole first second from mid to m n k x y follows is = r
 pub less_then : (a b : Texts) (after : List ℕ) (middle : Place) (first : Change) (from mid to : Shown Measured) (t : Texts) (n : ℕ) → t.text ≡ a.text ++ (b.text ++ after) → All a middle first from mid n → Less b mid to → Less t from to
 less_then a b after middle first from mid to t n is x y = record {
   less = a.text ++ y.less;
-  grown = y.grown ∙ ap (λ (h : Option (List ℕ)). append_known h y.less) x.grown ∙ append_known_twice (held from.out) a.text y.less;
+  grown = y.grown ∙ ap (λ (h : Option (List ℕ)). append_known h y.less) x.grown ∙ known_twice (held from.out) a.text y.less;
   fewer =
       let l = length-append a.text y.less in
       let p = ap length is ∙ length-append a.text (b.text ++ after) in
@@ -146,7 +144,7 @@ module _ (h : Showing) (name : List ℕ) (errors : Change) where
       let c = subst (λ (f : Option (List ℕ)). FileComes h (place from) name f t last) o.0 comes in (
         same_left (unopened name) t (passed (place from)) last from to (Ok DEVICE) result (sym c.0) (sym c.1) (sym is)
             (record {
-              grown = ap (λ (x : Shown Measured). held x.out) passes ∙ sym (append_known_none (held from.out));
+              grown = ap (λ (x : Shown Measured). held x.out) passes ∙ sym (known_nothing (held from.out));
               fine = ap (λ (x : Shown Measured). x.out.out.failed) passes;
               told = told_of errors (unopened_line name) line;
               status_is = refl;
@@ -163,7 +161,7 @@ module _ (h : Showing) (name : List ℕ) (errors : Change) where
 -- nothing was done
 pub nothing_left : (errors : Change) (from to : Shown Measured) (t : Texts) (last : Place) (status : ℕ) → Reports errors [] → to ≡ from → t ≡ no_texts → last ≡ place from → status ≡ DONE → All t last errors from to status
 nothing_left errors from to t last status line same none at is = record {
-  grown = ap (λ (x : Shown Measured). held x.out) same ∙ sym (append_known_none (held from.out)) ∙ ap (λ (x : Texts). append_known (held from.out) x.text) (sym none);
+  grown = ap (λ (x : Shown Measured). held x.out) same ∙ sym (known_nothing (held from.out)) ∙ ap (λ (x : Texts). append_known (held from.out) x.text) (sym none);
   fine = ap (λ (x : Shown Measured). x.out.out.failed) same;
   told = subst (λ (x : Texts). Told errors x.lines) (sym none) (told_of errors [] line);
   status_is = is ∙ ap (λ (x : Texts). x.status) (sym none);

@@ -3,7 +3,7 @@ use Rattle.std.proofs.Common.{◌≡◌, ◌∙◌, ap, sym, subst, refl, ℕ, L
 use Rattle.dcm_base.specs.Lines.Build as build
 use Rattle.dcm_files.specs.declared.memory.MemSystem.{MemSystem}
 use Rattle.dcm_names.specs.Names.{names_of}
-use Rattle.dcm_words.specs.Words.{Job, dump, dump_decoded, convert, build as building, modify, deidentify}
+use Rattle.dcm_words.specs.Words.{Job, dump, dump_decoded, dump_named, convert, build as building, modify, deidentify}
 use Rattle.dcm_table_words.specs.Table.{Name, file, list}
 use Rattle.dcm_cli.specs.declared.ending.Verdict.{Verdict}
 use Rattle.dcm_cli.specs.Answer.{ReadAnswers, Answer, output_of}
@@ -29,6 +29,7 @@ of_read job input a reads =
 some_text : (job : Job) (input : List ℕ) → Some_text job input
 some_text (dump d mode bare) input = let x = some_answer (dump d mode bare) input in of_read (dump d mode bare) input x.0 x.1
 some_text (dump_decoded d mode bare) input = let x = some_answer (dump_decoded d mode bare) input in of_read (dump_decoded d mode bare) input x.0 x.1
+some_text (dump_named texts d mode bare named) input = let x = some_answer (dump_named texts d mode bare named) input in of_read (dump_named texts d mode bare named) input x.0 x.1
 some_text (convert d target) input = let x = some_answer (convert d target) input in of_read (convert d target) input x.0 x.1
 some_text (building limit) input = (build.built_bytes (build.built limit input).built, verdict_of_line_stop (build.built limit input).told, record { out_is = refl; verdict_is = refl })
 some_text (modify d edits) input = let x = some_answer (modify d edits) input in of_read (modify d edits) input x.0 x.1

@@ -1,18 +1,8 @@
 -- What names come to one after another, taken apart.
-use Rattle.std.proofs.Common.{◌≡◌, ◌∙◌, sym, refl, subst, ℕ, List, [], ◌∷◌, ◌++◌, append_assoc, arith}
-use Rattle.std.specs.Prelude.{max}
-use Rattle.std.proofs.lemmas.Int.{clamps}
+use Rattle.std.proofs.Common.{◌≡◌, ◌∙◌, sym, refl, subst, List, [], ◌∷◌, ◌++◌, append_assoc}
 use Rattle.std.proofs.lemmas.List.{append-nil}
+use Rattle.dcm_lemmas.proofs.Numbers.{max_assoc, max_none, none_max}
 use Rattle.dcm_dumps.specs.DumpsInMemory.{Texts, no_texts, and_texts, Place, AllCome}
-
-max_assoc : (a b c : ℕ) → max (max a b) c ≡ max a (max b c)
-max_assoc a b c = omega (arith, clamps)
-
-max_none : (a : ℕ) → max a 0 ≡ a
-max_none a = omega (arith, clamps)
-
-none_max : (a : ℕ) → max 0 a ≡ a
-none_max a = omega (arith, clamps)
 
 pub texts_assoc : (a b c : Texts) → and_texts (and_texts a b) c ≡ and_texts a (and_texts b c)
 texts_assoc a b c = λ i. record { text = append_assoc a.text b.text c.text i; lines = append_assoc a.lines b.lines c.lines i; status = max_assoc a.status b.status c.status i }

@@ -8,7 +8,7 @@ use Rattle.dcm_files.specs.declared.opened.FileKind.{FileKind}
 use Rattle.dcm_files.specs.declared.opened.Opened.{Opened}
 use Rattle.dcm_files.specs.declared.opened.Unopened.{Unopened}
 use Rattle.dcm_files.specs.declared.opened.Unopened.TheVariants.{Output}
-use Rattle.dcm_files.specs.Devices.{MayDo, IsCause}
+use Rattle.dcm_files.specs.Devices.{MayDo, Closes, IsCause}
 use Rattle.dcm_table_words.specs.declared.usage.TableUsage.TheVariants as table_usages
 use Rattle.dcm_table_words.specs.Usages as table_words
 use Rattle.dcm_cli.specs.Calls.{Reader}
@@ -58,7 +58,7 @@ pub data MakesDumps {S I O : Type 0} (may : MayDo S I O) (r : Reader I) (w : Wri
       → MakesDumps may r w d errors before status after
   made : (o : Opened O) (output : O) (has_output written : S) → may.stdout before (Ok o) has_output
       → PutsDumps (ShowsMeant may r w d o.kind) errors o.device output has_output status written
-      → may.closes written output after → MakesDumps may r w d errors before status after
+      → Closes may written output after → MakesDumps may r w d errors before status after
 
 -- words are refused, and that is reported, with nothing done with the system; or what they mean was shown
 pub data ObeysDumps {S I O : Type 0} (may : MayDo S I O) (r : Reader I) (w : Writer O) (words : List (List ℕ))

@@ -1,5 +1,5 @@
 -- What the words of dcmdump mean that name several files.
-use Rattle.std.specs.Prelude.{ℕ, ◌+◌, List, [], ◌∷◌, map, Option, Some, None, Result, Ok, Err, Bool, true, false}
+use Rattle.std.specs.Prelude.{ℕ, ◌+◌, List, [], ◌∷◌, Option, Some, None, Result, Ok, Err, Bool, true, false}
 use Rattle.std.specs.Prelude.{◌&&◌, ◌||◌, not, nat_lt, count_by, codes, bytes_eq, if◌then◌else◌, option_map}
 use Rattle.std.specs.Option.{is_none}
 use Rattle.std.specs.List.{list_any}
@@ -7,7 +7,8 @@ use Rattle.dcm_base.specs.declared.fault.WordFault.TheVariants.{UnknownTool, Wro
 use Rattle.dcm_words.specs.declared.usage.Usage.TheVariants.{AtWord, Whole}
 use Rattle.dcm_words.specs.Topics.{asked}
 use Rattle.dcm_words.specs.Words.{Job, dump_of_each}
-use Rattle.dcm_table_words.specs.Table.{Name, file, list, names_in, word_says, is_empty_name, is_standard}
+use Rattle.dcm_table_words.specs.declared.saying.Tool.TheVariants.{Dump}
+use Rattle.dcm_table_words.specs.Table.{Name, file, list, names_in, sayings, is_empty_name, is_standard}
 use Rattle.dcm_dumps.specs.declared.plan.DumpsUsage.{DumpsUsage}
 use Rattle.dcm_dumps.specs.declared.plan.DumpsUsage.TheVariants.{Words, StandardTwice}
 
@@ -16,9 +17,9 @@ pub record Dumps : Type 0 where
   pub job : Job
   pub names : List Name
 
--- the names among words of which no option has a value, as dcm2csv has them
+-- the names among the words of dcmdump, as dcm2csv has them among its own
 abbrev pub names_among : List (List ℕ) → List Name
-names_among words = names_in (map word_says words)
+names_among words = names_in (sayings Dump words)
 
 -- ---- whether several files are shown
 

@@ -6,7 +6,7 @@ ghost use Rattle.dcm_dumps.specs.Plans as plans;
 ghost use Rattle.dcm_dumps.specs.Words as spec;
 
 use dcm_base::WordFault;
-use dcm_table_words::{Name, NameWords, has_empty, has_standard_twice};
+use dcm_table_words::{Name, NameWords, Tool, has_empty, has_standard_twice};
 use dcm_words::{Dump, SEVERAL, Usage, asked, dump_of_each};
 
 /// The tool that shows files.
@@ -60,7 +60,7 @@ pub fn asks_dumps(words: &[&[u8]]) -> bool
         [tool, rest @ ..] => {
             *tool == DCMDUMP
                 && asked(words).is_none()
-                && (has_several(rest) || !is_one_file(NameWords::among(rest)))
+                && (has_several(rest) || !is_one_file(NameWords::among(Tool::Dump, rest)))
         }
         [] => false,
     }
@@ -74,7 +74,7 @@ fn plan_of<'a>(words: &'a [&'a [u8]]) -> Result<DumpsPlan<'a>, DumpsUsage>
         Ok(each) => each,
         Err(usage) => return Err(DumpsUsage::Words(usage)),
     };
-    let names = NameWords::among(words);
+    let names = NameWords::among(Tool::Dump, words);
     if names.after(0).is_none() || has_empty(names) {
         return Err(DumpsUsage::Words(Usage::Whole(WordFault::WrongPaths)));
     }

@@ -66,7 +66,7 @@ fn make_dumps<S: System, E: DeviceOut>(
     };
     let mut out = Watched::new(output.device);
     let status = put_dumps(plan, output.kind, system, &mut out, errors);
-    system.close(out.into_device());
+    let _ = system.close(out.into_device());
     status
 }
 

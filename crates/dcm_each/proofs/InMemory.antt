@@ -2,13 +2,12 @@
 use Rattle.std.proofs.Common.{◌≡◌, ◌∙◌, ap, sym, subst, ℕ, ◌+◌, ◌<◌, ◌≤◌, List, [], ◌∷◌, ◌++◌, length, length-append, arith, Bool, true, false, Option, Some, None, Ok, Err, inl, inr}
 use Rattle.std.specs.Prelude.{if◌then◌else◌}
 use Rattle.std.specs.Io.KnownBytes.{append_known}
-use Rattle.std.proofs.lemmas.List.{length-take-le}
+use Rattle.dcm_lemmas.proofs.Options.{known_twice}
 use Rattle.dcm_devices.specs.declared.memory.MemIn.{MemIn}
 use Rattle.dcm_devices.specs.declared.memory.MemOut.{MemOut}
 use Rattle.dcm_devices.specs.declared.memory.Measured.{Measured}
 use Rattle.dcm_devices.specs.Device.{AppendsFront}
 use Rattle.dcm_devices.specs.Memory.{written, size, room_of}
-use Rattle.dcm_devices.proofs.Writes.Puts.{append_known_twice}
 use Rattle.dcm_files.specs.declared.memory.MemSystem.{MemSystem}
 use Rattle.dcm_files.specs.declared.opened.Opened.{Opened}
 use Rattle.dcm_files.specs.Memory.{may_do}
@@ -16,7 +15,7 @@ use Rattle.dcm_cli.specs.Change.{Change}
 use Rattle.dcm_cli.specs.ErrorLines.{Reports}
 use Rattle.dcm_cli.specs.InMemory.{bytes_at}
 use Rattle.dcm_cli.specs.Program.{Follows}
-use Rattle.dcm_cli.proofs.Runs.InMemory.{memory_change}
+use Rattle.dcm_cli.proofs.Runs.InMemory.{memory_change, taken}
 use Rattle.dcm_cli.proofs.Runs.OpenedMemory.{input_opened}
 use Rattle.dcm_each.specs.Each.{OpensAt, not_tried, refused, opened_at}
 
@@ -38,7 +37,7 @@ told_of c lines (inr x) = told_less x.0.front x.0.grown (front_less x.0) x.1
 module _ (whole first second : Change) (follows : Follows whole first second) (ls ms : List ℕ) where
   grown_on : (xs ys : List ℕ) → first.after ≡ append_known first.before xs → second.after ≡ append_known second.before ys → whole.after ≡ append_known whole.before (xs ++ ys)
   grown_on xs ys a b =
-      follows.ends.0 ∙ b ∙ ap (λ (k : Option (List ℕ)). append_known k ys) (follows.meets.0 ∙ a) ∙ append_known_twice first.before xs ys ∙ ap (λ (k : Option (List ℕ)). append_known k (xs ++ ys)) follows.begins.0
+      follows.ends.0 ∙ b ∙ ap (λ (k : Option (List ℕ)). append_known k ys) (follows.meets.0 ∙ a) ∙ known_twice first.before xs ys ∙ ap (λ (k : Option (List ℕ)). append_known k (xs ++ ys)) follows.begins.0
 
   fewer : (xs ys : List ℕ) → length xs ≤ length ls → length ys ≤ length ms → length xs + length ys < length ls + length ms → length (xs ++ ys) < length (ls ++ ms)
   fewer xs ys a b less = let x = length-append xs ys in let l = length-append ls ms in omega (arith, x, l, less)
@@ -62,10 +61,6 @@ grew size now before after bytes e = cc
 
 pub stays : (size now : ℕ) (before after bytes : List ℕ) → Some (now ∷ after) ≡ append_known (Some (size ∷ before)) bytes → now ≡ size
 stays size now before after bytes e = cc
-
--- as many bytes as were put
-pub taken : (m : MemOut) → length (written m) ≡ m.at
-taken m = length-take-le m.at m.bytes.items (subst (λ (n : ℕ). m.at ≤ n) m.bytes.ok.0 m.within)
 
 -- a writer fails only where it is full
 pub no_less : (m n : MemOut) (less : List ℕ) (most : ℕ) → Some (size n ∷ written n) ≡ append_known (Some (size m ∷ written m)) less → n.failed ≡ true → length less < most → most ≤ room_of m → ⊥

@@ -1,8 +1,9 @@
 -- Names that are done one after another.
 use Rattle.std.proofs.Common.{◌≡◌, ◌∙◌, ap, sym, subst, refl, ℕ, List, [], ◌∷◌, ◌++◌, append_assoc, length, take, Bool, true, false, Result, Ok, Err, inl, inr, arith}
-use Rattle.std.specs.Prelude.{codes, max, nat_le, ◌&&◌, flat_map}
+use Rattle.std.specs.Prelude.{codes, max, nat_le, flat_map}
 use Rattle.std.proofs.lemmas.List.{append-nil, take_all, length-take}
 use Rattle.std.proofs.lemmas.Bool.{leb-true}
+use Rattle.dcm_lemmas.proofs.Truth.{and_first}
 use Rattle.dcm_devices.specs.declared.device.WriteFailed.{WriteFailed}
 use Rattle.dcm_devices.specs.Writing.{Writer, Wrote}
 use Rattle.dcm_files.specs.Devices.{MayDo}
@@ -24,12 +25,8 @@ follows w first mid last = record { begins = (refl, refl); meets = (refl, refl);
 
 -- ---- a name in a list, of which the first bytes are held
 
-both_hold : (a b : Bool) → (a && b) ≡ true → a ≡ true
-both_hold true b e = refl
-both_hold false b e = cc
-
-openable_whole : (name : List ℕ) → can_be_opened name ≡ true → take NAME_LIMIT name ≡ name
-openable_whole name e = take_all NAME_LIMIT name (leb-true (length name) NAME_LIMIT (both_hold (nat_le (length name) NAME_LIMIT) _ e))
+pub openable_whole : (name : List ℕ) → can_be_opened name ≡ true → take NAME_LIMIT name ≡ name
+openable_whole name e = take_all NAME_LIMIT name (leb-true (length name) NAME_LIMIT (and_first (nat_le (length name) NAME_LIMIT) _ e))
 
 pub shown_front : (name : List ℕ) → shown_name (take NAME_LIMIT name) ≡ shown_name name
 unfolding shown_name

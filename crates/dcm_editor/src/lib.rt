@@ -25,7 +25,7 @@ mod place;
 mod sink;
 
 pub use dcm_edits::{
-    Action, Edit, EditFault, Edits, Index, MOST_EDITS, NewElement, PathEdit, Step, dictionary_said,
-    dictionary_word,
+    Action, Edit, EditFault, Edits, Index, MOST_EDITS, NewElement, PathEdit, Settings, Step,
+    dictionary_word, settings_of,
 };
 pub use sink::EditSink;

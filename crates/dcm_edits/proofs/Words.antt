@@ -5,7 +5,7 @@ pub mod IndexNumbers
 pub mod ManyParts
 pub mod KnownParts
 pub mod Steps
-pub mod DictionaryWords
+pub mod SettingWords
 pub mod Makings
 pub mod Forms
 pub mod ManyEdits

@@ -15,6 +15,7 @@ use Rattle.dcm_base.specs.declared.dictionary.Dictionary.{Dictionary}
 use Rattle.dcm_base.specs.declared.dictionary.Dictionary.TheVariants.{Extract, Standard}
 use Rattle.dcm_base.specs.Tables.Dictionary.{element_in, tag_in}
 use Rattle.dcm_base.specs.Lines.ReadValue.{tag_of_text, number_in, value_of_word}
+use Rattle.dcm_edits.specs.declared.parse.Settings.{Settings}
 use Rattle.dcm_edits.specs.Edit.{Index, number, every, PathEdit, step, insert, modify, erase, erase_item, Edit, on_path}
 use Rattle.dcm_edits.specs.Edit.{modify_all, erase_all, erase_private}
 use Rattle.dcm_edits.specs.Overlap.{first_overlap}
@@ -251,25 +252,45 @@ dictionary_word w =
     if bytes_eq w (codes "-dict") then Some Extract
     else (if bytes_eq w (codes "+dict") then Some Standard else None)
 
--- the dictionary that words name where an option may be: the last one counts
-abbrev pub dictionary_said : Dictionary → List (List ℕ) → Dictionary
-dictionary_said d [] = d
-dictionary_said d (w ∷ []) = unwrap_or (dictionary_word w) d
-dictionary_said d (w ∷ v ∷ words) = elim (takes_next (option_word w)) [
-  | true ↦ dictionary_said d words
-  | false ↦ dictionary_said (unwrap_or (dictionary_word w) d) (v ∷ words)
-]
+-- the word by which an output that is there is overwritten, which is no edit
+abbrev pub is_overwrite : List ℕ → Bool
+is_overwrite w = bytes_eq w (codes "+ow")
 
--- the words without those that name a dictionary
-abbrev pub unless_dictionary : List ℕ → List (List ℕ) → List (List ℕ)
-unless_dictionary w words = if is_some (dictionary_word w) then words else w ∷ words
+-- a word that is no edit: it says something of all of them
+abbrev pub is_setting : List ℕ → Bool
+is_setting w = is_some (dictionary_word w) || is_overwrite w
 
-abbrev pub without_dictionary : List (List ℕ) → List (List ℕ)
-without_dictionary [] = []
-without_dictionary (w ∷ []) = unless_dictionary w []
-without_dictionary (w ∷ v ∷ words) = elim (takes_next (option_word w)) [
-  | true ↦ w ∷ v ∷ without_dictionary words
-  | false ↦ unless_dictionary w (without_dictionary (v ∷ words))
+-- the extract, and an output that is there stays
+abbrev pub no_settings : Settings
+no_settings = record { dictionary = Extract; overwrites = false }
+
+-- of several dictionaries the last one counts
+abbrev pub and_setting : Settings → List ℕ → Settings
+and_setting s w = record {
+  dictionary = unwrap_or (dictionary_word w) s.dictionary;
+  overwrites = s.overwrites || is_overwrite w;
+}
+
+-- what words say of all edits where an option may be
+abbrev pub settings_after : Settings → List (List ℕ) → Settings
+settings_after s [] = s
+settings_after s (w ∷ []) = elim (takes_next (option_word w)) [ true ↦ s | false ↦ and_setting s w ]
+settings_after s (w ∷ v ∷ words) = elim (takes_next (option_word w))
+    [ true ↦ settings_after s words | false ↦ settings_after (and_setting s w) (v ∷ words) ]
+
+abbrev pub settings_of : List (List ℕ) → Settings
+settings_of words = settings_after no_settings words
+
+-- the words of the edits alone
+abbrev pub unless_setting : List ℕ → List (List ℕ) → List (List ℕ)
+unless_setting w words = if is_setting w then words else w ∷ words
+
+abbrev pub without_settings : List (List ℕ) → List (List ℕ)
+without_settings [] = []
+without_settings (w ∷ []) = unless_setting w []
+without_settings (w ∷ v ∷ words) = elim (takes_next (option_word w)) [
+  | true ↦ w ∷ v ∷ without_settings words
+  | false ↦ unless_setting w (without_settings (v ∷ words))
 ]
 
 -- a refusal, and the number of the edit from 1
@@ -319,7 +340,7 @@ apart es = elim (first_overlap 1 [] es) [ None ↦ Ok es | Some n ↦ Err (in_ed
 
 -- the edits by a dictionary, or the first refusal
 abbrev pub meant_edits_in : Dictionary → List (List ℕ) → Result (List Edit) InEdit
-meant_edits_in d words = elim (meant_from d 1 (without_dictionary words)) [ Ok es ↦ apart es | Err u ↦ Err u ]
+meant_edits_in d words = elim (meant_from d 1 (without_settings words)) [ Ok es ↦ apart es | Err u ↦ Err u ]
 
 -- those by the extract
 abbrev pub meant_edits : List (List ℕ) → Result (List Edit) InEdit

@@ -8,3 +8,4 @@ pub mod Meaning
 pub mod Parts
 pub mod Making
 pub mod Bounds
+pub mod TagWords

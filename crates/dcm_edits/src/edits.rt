@@ -48,8 +48,8 @@ impl<A: Allocator> Edits<A> {
         Edits::parse_in(alloc, Dictionary::Extract, words)
     }
 
-    /// The edits that words mean by a dictionary, or the first refusal. Words that name a dictionary, `+dict` and
-    /// `-dict`, are no edits and are passed over: `dictionary_said` answers which one they name (DECISIONS, D-25).
+    /// The edits that words mean by a dictionary, or the first refusal. Words that say something of all edits, `+dict`,
+    /// `-dict` and `+ow`, are no edits and are passed over: `settings_of` answers what they say (DECISIONS, D-25).
     pub fn parse_in(
         alloc: A,
         dictionary: Dictionary,

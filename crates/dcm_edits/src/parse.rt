@@ -1,6 +1,5 @@
 // The edits that words mean.
 ghost use Rattle.std.specs.Prelude.{◌≡◌, ◌+◌, ◌<◌, ◌≤◌, length, map, IfOk};
-ghost use Rattle.dcm_base.specs.declared.dictionary.Dictionary.TheVariants.{Extract};
 ghost use Rattle.dcm_edits.specs.EditWords as spec;
 ghost use Rattle.dcm_edits.specs.Making.{option_as, fault_of, texts, texts_from, MakesFrom, MakesAll, first_edit};
 ghost use Rattle.dcm_edits.specs.Meaning.{edit_of as edit_as};
@@ -74,22 +73,58 @@ pub fn dictionary_word(word: &[u8]) -> Option<Dictionary>
     }
 }
 
-/// The dictionary that the words of edits name: that of the last `+dict` or `-dict` where an option may be, or the
-/// extract where there is none.
-pub fn dictionary_said(words: &[&[u8]]) -> Dictionary
-    ensures { result ≡ spec.dictionary_said Extract (texts words.now) }
+/// Whether a word says that an output that is there is overwritten: `+ow`.
+pub fn is_overwrite(word: &[u8]) -> bool
+    ensures { result ≡ spec.is_overwrite word.now }
 {
-    let mut dictionary = Dictionary::Extract;
+    word == b"+ow".as_slice()
+}
+
+/// What the words of edits say of all of them.
+#[derive(Clone, Copy, Debug, PartialEq, Eq)]
+pub struct Settings {
+    /// The dictionary that edits are meant by.
+    pub dictionary: Dictionary,
+    /// Whether an output that is there is overwritten.
+    pub overwrites: bool,
+}
+
+/// Whether a word is no edit: it says something of all of them.
+fn is_setting(word: &[u8]) -> bool
+    ensures { result ≡ spec.is_setting word.now }
+{
+    dictionary_word(word).is_some() || is_overwrite(word)
+}
+
+/// What was said so far, and what a word says, if it does.
+fn and_setting(settings: Settings, word: &[u8]) -> Settings
+    ensures { result ≡ spec.and_setting settings word.now }
+{
+    Settings {
+        dictionary: dictionary_word(word).unwrap_or(settings.dictionary),
+        overwrites: settings.overwrites || is_overwrite(word),
+    }
+}
+
+/// What the words of edits say of all of them: the dictionary of the last `+dict` or `-dict` where an option may be, or
+/// the extract where there is none; and whether `+ow` is there.
+pub fn settings_of(words: &[&[u8]]) -> Settings
+    ensures { result ≡ spec.settings_of (texts words.now) }
+{
+    let mut settings = Settings {
+        dictionary: Dictionary::Extract,
+        overwrites: false,
+    };
     let mut place = 0;
     while place < words.len() {
         if takes_next(words[place]) {
             place += 2;
         } else {
-            dictionary = dictionary_word(words[place]).unwrap_or(dictionary);
+            settings = and_setting(settings, words[place]);
             place += 1;
         }
     }
-    dictionary
+    settings
 }
 
 /// A failure of the edit with this number.
@@ -128,19 +163,19 @@ fn next_edit<A: Allocator + Copy>(
     }
 }
 
-/// The edits of words, which may overlap. Words that name a dictionary are none.
+/// The edits of words, which may overlap. Words that say something of all edits are none.
 pub fn edits_of<A: Allocator + Copy>(
     alloc: A,
     dictionary: Dictionary,
     words: &[&[u8]],
 ) -> Result<Vec<Edit<A>, A>, EditFault>
     ensures { MakesAll (λ v. map edit_as v.items) result
-        (spec.meant_from dictionary 1 (spec.without_dictionary (texts words.now))) }
+        (spec.meant_from dictionary 1 (spec.without_settings (texts words.now))) }
 {
     let mut edits = Vec::new(alloc);
     let mut place = 0;
     while place < words.len() {
-        if dictionary_word(words[place]).is_some() {
+        if is_setting(words[place]) {
             place += 1;
             continue;
         }

@@ -22,13 +22,18 @@ pub data Call : Type 0 where
   looked : List ℕ → Result (Option FileKind) Error → Call
   -- a path that is written, and at which nothing was
   made : List ℕ → Result FileKind Error → Call
+  -- a path whose file is locked, unless another run has locked it
+  seized : List ℕ → Result Bool Error → Call
+  -- whether the file that was made or locked last is at a path
+  held : List ℕ → Bool → Call
   -- a file that got the mode of the regular file at another path, where one was there
   kept_mode : (from to : List ℕ) → Result (Unit {0}) Error → Call
   -- a file that was moved from a path to another one
   moved : (from to : List ℕ) → Result (Unit {0}) Error → Call
   removed : List ℕ → Result (Unit {0}) Error → Call
-  -- an output that was taken back: the bytes that it took, and whether it failed
-  closed : List ℕ → (failed : Bool) → Call
+  -- an output that is to be closed: the bytes that it took, and whether it failed; and how its closing went
+  closing : List ℕ → (failed : Bool) → Call
+  closed : Result (Unit {0}) Error → Call
   -- a folder whose names are listed
   opened_folder : List ℕ → Result (Unit {0}) Error → Call
   -- the next name in a folder
@@ -36,7 +41,10 @@ pub data Call : Type 0 where
   closed_folder : Call
   -- what is at a path, links followed or not
   found : List ℕ → Links → Result (Option Found) Error → Call
-  made_folder : List ℕ → Result (Unit {0}) Error → Call
+  -- the mode of the folder of a name in a folder
+  gave_mode : (folder name : List ℕ) → Result ℕ Error → Call
+  -- a new folder at a path, of a mode
+  made_folder : List ℕ → ℕ → Result (Unit {0}) Error → Call
   -- a new file at a path, of a mode
   made_as : List ℕ → ℕ → Result FileKind Error → Call
   -- a file that got a second name

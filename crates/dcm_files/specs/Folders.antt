@@ -15,8 +15,10 @@ pub record FoldersDo (S O F : Type 0) : Type 1 where
   pub closes_folder : S → F → S → Type 0
   -- of a path: what is there
   pub finds : S → List ℕ → Links → Result (Option Found) Error → S → Type 0
-  -- of a path at which nothing was
-  pub makes_folder : S → List ℕ → Result (Unit {0}) Error → S → Type 0
+  -- of the folder of a name in a folder, or of that one where the name is empty: its mode
+  pub modes : S → (folder name : List ℕ) → Result ℕ Error → S → Type 0
+  -- of a path at which nothing was, and the mode of the new folder
+  pub makes_folder : S → List ℕ → ℕ → Result (Unit {0}) Error → S → Type 0
   -- of a path that is written, and at which nothing was, and the mode of the new file
   pub makes_as : S → List ℕ → ℕ → Result (Opened O) Error → S → Type 0
   -- gives the file at a path a second one
@@ -29,7 +31,8 @@ anything = record {
   names = λ before folder r left after. Unit {0};
   closes_folder = λ before folder after. Unit {0};
   finds = λ before path links r after. Unit {0};
-  makes_folder = λ before path r after. Unit {0};
+  modes = λ before folder name r after. Unit {0};
+  makes_folder = λ before path mode r after. Unit {0};
   makes_as = λ before path mode r after. Unit {0};
   links = λ before from to r after. Unit {0};
 }

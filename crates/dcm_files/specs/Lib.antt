@@ -7,3 +7,4 @@ pub mod Part
 pub mod Call
 pub mod Host
 pub mod HostFolder
+pub mod Modes

@@ -1,6 +1,6 @@
 -- What a system over files in memory does.
-use Rattle.std.specs.Prelude.{◌≡◌, ℕ, List, length, find, bytes_eq, Option, Some, None, Result, Ok, IsOkAnd, IsErrAnd}
-use Rattle.std.specs.Option.{option_map}
+use Rattle.std.specs.Prelude.{◌≡◌, ℕ, List, length, find, bytes_eq, Bool, true, Option, Some, None, Result, Ok, IsOkAnd, IsErrAnd}
+use Rattle.std.specs.Option.{is_some, option_map}
 use Rattle.std.specs.IoError.{error_kind}
 use Rattle.std.specs.declared.io.Error.{Error}
 use Rattle.std.specs.declared.io.ErrorKind.TheVariants.{AlreadyExists, NotFound, StorageFull, Unsupported}
@@ -50,6 +50,11 @@ abbrev pub MakesFile : MemSystem → Option MemFile → Result (Opened Measured)
 MakesFile before None r after = GivesRoom before.room (Regular 1 0 0) r × (after ≡ record before { room = None })
 MakesFile before (Some f) r after = IsErrAnd r (λ e. error_kind e ≡ AlreadyExists) × (after ≡ before)
 
+-- a file is locked where one is there: no other run is at work
+abbrev pub SeizesFile : Option MemFile → Result Bool Error → Type 0
+SeizesFile (Some f) r = r ≡ Ok true
+SeizesFile None r = IsErrAnd r (λ e. error_kind e ≡ NotFound)
+
 -- what its calls do. Each file has one mode, which is kept. A file that is moved is still the one that was written, and one that is removed is not
 abbrev pub may_do : MayDo MemSystem MemIn Measured
 may_do = record {
@@ -62,10 +67,12 @@ may_do = record {
       × (after ≡ record before { room = None });
   looks = λ before path r after. (r ≡ Ok (option_map kind_of (file_named before.files.now path))) × (after ≡ before);
   makes = λ before path r after. MakesFile before (file_named before.files.now path) r after;
+  seizes = λ before path r after. SeizesFile (file_named before.files.now path) r × (after ≡ before);
+  holds = λ before path r after. (r ≡ is_some (file_named before.files.now path)) × (after ≡ before);
   keeps = λ before from to r after. (r ≡ Ok _) × (after ≡ before);
   moves = λ before from to r after. (r ≡ Ok _) × (after ≡ before);
   removes = λ before path r after. (r ≡ Ok _) × (after ≡ record before { written = None });
-  closes = λ before d after. after ≡ record before { written = Some d.out };
+  closes = λ before d r after. (r ≡ Ok _) × (after ≡ record before { written = Some d.out });
 }
 
 -- it has no folders, and makes none
@@ -76,7 +83,8 @@ folders_do = record {
   closes_folder = λ before folder after. after ≡ before;
   finds = λ before path links r after.
       (r ≡ Ok (option_map found_as (file_named before.files.now path))) × (after ≡ before);
-  makes_folder = λ before path r after. IsErrAnd r (λ e. error_kind e ≡ Unsupported) × (after ≡ before);
+  modes = λ before folder name r after. IsErrAnd r (λ e. error_kind e ≡ NotFound) × (after ≡ before);
+  makes_folder = λ before path mode r after. IsErrAnd r (λ e. error_kind e ≡ Unsupported) × (after ≡ before);
   makes_as = λ before path mode r after. MakesFile before (file_named before.files.now path) r after;
   links = λ before from to r after. IsErrAnd r (λ e. error_kind e ≡ Unsupported) × (after ≡ before);
 }

@@ -1,8 +1,8 @@
 -- An output that has its name only once it is whole.
-use Rattle.std.specs.Prelude.{◌≡◌, ◌≢◌, ℕ, nat_le, length, List, ◌++◌, codes, Bool, true, false, ◌&&◌, not, Option}
+use Rattle.std.specs.Prelude.{◌≡◌, ◌≢◌, ℕ, nat_le, length, List, ◌++◌, codes, Bool, true, false, if◌then◌else◌, Option}
 use Rattle.std.specs.Prelude.{Some, None}
 use Rattle.std.specs.Prelude.{Result, Ok, Err}
-use Rattle.std.specs.Option.{is_some, is_none}
+use Rattle.std.specs.Option.{option_or}
 use Rattle.std.specs.IoError.{error_kind}
 use Rattle.std.specs.Str.{IsUtf8}
 use Rattle.std.specs.declared.io.Error.{Error}
@@ -13,7 +13,7 @@ use Rattle.dcm_files.specs.declared.opened.FileKind.TheVariants.{Regular}
 use Rattle.dcm_files.specs.declared.opened.Opened.{Opened}
 use Rattle.dcm_files.specs.declared.opened.Unopened.{Unopened}
 use Rattle.dcm_files.specs.declared.opened.Unopened.TheVariants.{Input, Output, Part}
-use Rattle.dcm_files.specs.Devices.{MayDo, IsCause, OpensInput, clash, standard}
+use Rattle.dcm_files.specs.Devices.{MayDo, IsCause, OpensInput, OpensStream, clash, stays, was_read, standard}
 
 -- ---- paths
 
@@ -28,21 +28,28 @@ LONGEST_PATH = 4096
 abbrev pub is_short : (output : List ℕ) → Bool
 is_short output = nat_le (length output) LONGEST_PATH
 
--- ---- what may be replaced
+-- ---- what is not replaced
 
 abbrev pub is_regular : FileKind → Bool
 is_regular (Regular device number size) = true
 is_regular _ = false
 
--- it is the file that was read earlier, or may be
-abbrev pub was_read : (earlier : Option FileKind) → FileKind → Bool
-was_read None kind = false
-was_read (Some earlier) kind = is_some (clash earlier kind)
+-- a file that was read earlier
+abbrev pub read_earlier : (earlier : Option FileKind) → FileKind → Option Unopened
+read_earlier earlier kind = if was_read earlier kind then Some Output else None
 
--- nothing, or a regular file that was not read, as the input or earlier
-abbrev pub may_replace : (there : Option FileKind) → (input : FileKind) → (earlier : Option FileKind) → Bool
-may_replace None input earlier = true
-may_replace (Some kind) input earlier = is_regular kind && is_none (clash input kind) && not (was_read earlier kind)
+-- what is no regular file
+abbrev pub irregular : FileKind → Option Unopened
+irregular kind = if is_regular kind then None else Some Output
+
+-- why no file is put in the place of what is there, if none is: it was read, as the input or earlier; or it holds bytes,
+-- and is not to be overwritten; or it is no regular file
+abbrev pub unreplaced : (overwrites : Bool) → (there : Option FileKind) → (input : FileKind)
+    → (earlier : Option FileKind) → Option Unopened
+unreplaced overwrites None input earlier = None
+unreplaced overwrites (Some kind) input earlier =
+    option_or (clash input kind)
+    (option_or (read_earlier earlier kind) (option_or (stays overwrites kind) (irregular kind)))
 
 -- ---- what the opening of such an output gives
 
@@ -52,26 +59,27 @@ pub data BadPath (path : List ℕ) (e : Error) : Type 0 where
   too_long : is_short path ≡ false → error_kind e ≡ kinds.InvalidFilename → BadPath path e
 
 -- of a path what is there is looked at, and no part is made: why
-pub data FindsNoPart {S I O : Type 0} (may : MayDo S I O) (output : List ℕ) (input : FileKind)
-    (earlier : Option FileKind) (before : S) (e : Error) (after : S) : Type 0 where
-  no_text : ¬ (IsUtf8 output) → error_kind e ≡ kinds.InvalidFilename → after ≡ before
-      → FindsNoPart may output input earlier before e after
-  not_seen : IsUtf8 output → may.looks before output (Err e) after → FindsNoPart may output input earlier before e after
+pub data FindsNoPart {S I O : Type 0} (may : MayDo S I O) (output : List ℕ) (overwrites : Bool) (input : FileKind)
+    (earlier : Option FileKind) (before : S) (u : Unopened) (after : S) : Type 0 where
+  no_output_text : ¬ (IsUtf8 output) → u ≡ Output → after ≡ before
+      → FindsNoPart may output overwrites input earlier before u after
+  not_seen : (e : Error) → IsUtf8 output → may.looks before output (Err e) after → IsCause (error_kind e) Output u
+      → FindsNoPart may output overwrites input earlier before u after
   not_replaced : (there : Option FileKind) → IsUtf8 output → may.looks before output (Ok there) after
-      → may_replace there input earlier ≡ false → error_kind e ≡ kinds.InvalidInput
-      → FindsNoPart may output input earlier before e after
-  too_long : (there : Option FileKind) → IsUtf8 output → may.looks before output (Ok there) after
-      → may_replace there input earlier ≡ true → is_short output ≡ false → error_kind e ≡ kinds.InvalidFilename
-      → FindsNoPart may output input earlier before e after
+      → unreplaced overwrites there input earlier ≡ Some u
+      → FindsNoPart may output overwrites input earlier before u after
+  output_too_long : (there : Option FileKind) → IsUtf8 output → may.looks before output (Ok there) after
+      → unreplaced overwrites there input earlier ≡ None → is_short output ≡ false → u ≡ Output
+      → FindsNoPart may output overwrites input earlier before u after
 
 -- a part may be made, since its output may be put in the place of what is there
-pub record FindsPart {S I O : Type 0} (may : MayDo S I O) (output : List ℕ) (input : FileKind)
+pub record FindsPart {S I O : Type 0} (may : MayDo S I O) (output : List ℕ) (overwrites : Bool) (input : FileKind)
     (earlier : Option FileKind) (before after : S) : Type 0 where
   pub there : Option FileKind
   pub text : IsUtf8 output
   pub fits : is_short output ≡ true
   pub looked : may.looks before output (Ok there) after
-  pub replaces : may_replace there input earlier ≡ true
+  pub replaces : unreplaced overwrites there input earlier ≡ None
 
 -- why a part was not made, after an error of this kind: it is there, or another reason
 pub record IsPartCause (kind : ErrorKind) (cause : Unopened) : Type 0 where
@@ -88,47 +96,32 @@ pub data MakesPart {S I O : Type 0} (may : MayDo S I O) (part : List ℕ) (befor
       → MakesPart may part before r after
 
 -- of a path: what is there is looked at, and then a part is made
-pub data OpensPart {S I O : Type 0} (may : MayDo S I O) (output : List ℕ) (input : FileKind) (earlier : Option FileKind)
-    (before : S) (r : Result (Opened O) Unopened) (after : S) : Type 0 where
-  not_found : (e : Error) (u : Unopened) → FindsNoPart may output input earlier before e after
-      → IsCause (error_kind e) Output u → r ≡ Err u → OpensPart may output input earlier before r after
-  found : (has_looked : S) → FindsPart may output input earlier before has_looked
-      → MakesPart may (part_of output) has_looked r after → OpensPart may output input earlier before r after
-
--- of standard output: it is closed again where it is a file that was read
-pub data OpensStream {S I O : Type 0} (may : MayDo S I O) (input : FileKind) (earlier : Option FileKind)
-    (before : S) (r : Result (Opened O) Unopened) (after : S) : Type 0 where
-  no_stdout : (e : Error) (u : Unopened) → may.stdout before (Err e) after → IsCause (error_kind e) Output u
-      → r ≡ Err u → OpensStream may input earlier before r after
-  was_read_earlier : (o : Opened O) (has_output : S) → may.stdout before (Ok o) has_output
-      → was_read earlier o.kind ≡ true
-      → may.closes has_output o.device after → r ≡ Err Output → OpensStream may input earlier before r after
-  clashed : (o : Opened O) (cause : Unopened) (has_output : S) → may.stdout before (Ok o) has_output
-      → was_read earlier o.kind ≡ false → clash input o.kind ≡ Some cause → may.closes has_output o.device after
-      → r ≡ Err cause → OpensStream may input earlier before r after
-  opened : (o : Opened O) → may.stdout before (Ok o) after → was_read earlier o.kind ≡ false → clash input o.kind ≡ None
-      → r ≡ Ok o → OpensStream may input earlier before r after
+pub data OpensPart {S I O : Type 0} (may : MayDo S I O) (output : List ℕ) (overwrites : Bool) (input : FileKind)
+    (earlier : Option FileKind) (before : S) (r : Result (Opened O) Unopened) (after : S) : Type 0 where
+  not_found : (u : Unopened) → FindsNoPart may output overwrites input earlier before u after
+      → r ≡ Err u → OpensPart may output overwrites input earlier before r after
+  found : (has_looked : S) → FindsPart may output overwrites input earlier before has_looked
+      → MakesPart may (part_of output) has_looked r after → OpensPart may output overwrites input earlier before r after
 
 -- of an output that has its name only once it is whole
-pub data OpensWhole {S I O : Type 0} (may : MayDo S I O) (output : List ℕ) (input : FileKind)
-    (earlier : Option FileKind)
-    (before : S) (r : Result (Opened O) Unopened) (after : S) : Type 0 where
+pub data OpensWhole {S I O : Type 0} (may : MayDo S I O) (output : List ℕ) (overwrites : Bool) (input : FileKind)
+    (earlier : Option FileKind) (before : S) (r : Result (Opened O) Unopened) (after : S) : Type 0 where
   stream : output ≡ standard → OpensStream may input earlier before r after
-      → OpensWhole may output input earlier before r after
-  part : output ≢ standard → OpensPart may output input earlier before r after
-      → OpensWhole may output input earlier before r after
+      → OpensWhole may output overwrites input earlier before r after
+  part : output ≢ standard → OpensPart may output overwrites input earlier before r after
+      → OpensWhole may output overwrites input earlier before r after
 
 -- of both: the input is opened, and then the output
-pub data OpensWholeDevices {S I O : Type 0} (may : MayDo S I O) (input output : List ℕ) (earlier : Option FileKind)
-    (before : S) (r : Result (Opened I × Opened O) Unopened) (after : S) : Type 0 where
+pub data OpensWholeDevices {S I O : Type 0} (may : MayDo S I O) (input output : List ℕ) (overwrites : Bool)
+    (earlier : Option FileKind) (before : S) (r : Result (Opened I × Opened O) Unopened) (after : S) : Type 0 where
   no_input : (e : Error) (u : Unopened) → OpensInput may input before (Err e) after → IsCause (error_kind e) Input u
-      → r ≡ Err u → OpensWholeDevices may input output earlier before r after
+      → r ≡ Err u → OpensWholeDevices may input output overwrites earlier before r after
   no_output : (i : Opened I) (u : Unopened) (has_input tried : S) → OpensInput may input before (Ok i) has_input
-      → OpensWhole may output i.kind earlier has_input (Err u) tried → may.releases tried i.device after
-      → r ≡ Err u → OpensWholeDevices may input output earlier before r after
+      → OpensWhole may output overwrites i.kind earlier has_input (Err u) tried → may.releases tried i.device after
+      → r ≡ Err u → OpensWholeDevices may input output overwrites earlier before r after
   both : (i : Opened I) (o : Opened O) (has_input : S) → OpensInput may input before (Ok i) has_input
-      → OpensWhole may output i.kind earlier has_input (Ok o) after → r ≡ Ok (i, o)
-      → OpensWholeDevices may input output earlier before r after
+      → OpensWhole may output overwrites i.kind earlier has_input (Ok o) after → r ≡ Ok (i, o)
+      → OpensWholeDevices may input output overwrites earlier before r after
 
 -- ---- what is done with it at the end
 

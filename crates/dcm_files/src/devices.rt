@@ -54,9 +54,20 @@ pub trait System {
     fn kind_at(&mut self, path: &str) -> io::Result<Option<FileKind>>
         ensures { may_do.looks self.old path.now result self.new };
 
-    /// What is written at a path at which nothing was. An error where something is.
+    /// What is written at a path at which nothing was. It is held, as by `seize`. An error where something is, or where
+    /// another run has locked what was made.
     fn create_new(&mut self, path: &str) -> io::Result<Opened<Self::Output>>
         ensures { may_do.makes self.old path.now result self.new };
+
+    /// Locks the regular file at a path, and holds it: until another one is held, or a file is moved or removed, no other
+    /// run locks it. Answers whether it is held, or another run has locked it. An error where it cannot be opened or
+    /// locked, or is at the path no longer.
+    fn seize(&mut self, path: &str) -> io::Result<bool>
+        ensures { may_do.seizes self.old path.now result self.new };
+
+    /// Whether what is at a path, a link as a link, is the file that is held.
+    fn holds(&mut self, path: &str) -> bool
+        ensures { may_do.holds self.old path.now result self.new };
 
     /// Gives the file at the second path the mode of the regular file at the first one. Where none is there, nothing is
     /// done.
@@ -71,9 +82,10 @@ pub trait System {
     fn remove(&mut self, path: &str) -> io::Result<()>
         ensures { may_do.removes self.old path.now result self.new };
 
-    /// Closes an output. What one that failed still holds is not written again.
-    fn close(&mut self, output: Self::Output)
-        ensures { may_do.closes self.old output self.new };
+    /// Closes an output. Of one that failed nothing is written again. An error where the system says only now that
+    /// bytes of a file are lost, as it may on a network disk or at a quota.
+    fn close(&mut self, output: Self::Output) -> io::Result<()>
+        ensures { may_do.closes self.old output result self.new };
 }
 
 /// A path as a text.
@@ -103,16 +115,6 @@ pub fn open_input<S: System>(system: &mut S, word: &[u8]) -> io::Result<Opened<S
     Ok(input)
 }
 
-/// Opens an output, `-` for standard output.
-pub fn open_output<S: System>(system: &mut S, word: &[u8]) -> io::Result<Opened<S::Output>>
-    ensures { OpensOutput S.may_do word.now system.old result system.new }
-{
-    if word == STANDARD {
-        return system.stdout();
-    }
-    system.create(path(word)?)
-}
-
 /// Why an input and an output are not used together: both are one regular file, under whatever names; or they may be,
 /// since the system does not say what is read, and the output holds bytes (DECISIONS, D-31).
 pub fn clash(input: FileKind, output: FileKind) -> Option<Unopened>
@@ -132,6 +134,50 @@ pub fn clash(input: FileKind, output: FileKind) -> Option<Unopened>
     }
 }
 
+/// Whether it is a regular file that holds bytes.
+fn holds_bytes(kind: FileKind) -> bool
+    ensures { result ≡ spec.holds_bytes kind }
+{
+    matches!(kind, FileKind::Regular { size, .. } if size > 0)
+}
+
+/// That a file that holds bytes stays, unless it is to be overwritten.
+pub(crate) fn stays(kind: FileKind, overwrites: bool) -> Option<Unopened>
+    ensures { result ≡ spec.stays overwrites kind }
+{
+    if holds_bytes(kind) && !overwrites {
+        return Some(Unopened::There);
+    }
+    None
+}
+
+/// Why what is there is not written: it is the input, or may be; or it stays.
+fn barred(input: FileKind, there: FileKind, overwrites: bool) -> Option<Unopened>
+    ensures { result ≡ spec.barred overwrites input there }
+{
+    clash(input, there).or(stays(there, overwrites))
+}
+
+/// The same, where something is there.
+fn barred_at(input: FileKind, there: Option<FileKind>, overwrites: bool) -> Option<Unopened>
+    ensures { result ≡ spec.barred_at overwrites input there }
+{
+    match there {
+        Some(there) => barred(input, there, overwrites),
+        None => None,
+    }
+}
+
+/// Whether it is the file that was read earlier, or may be.
+pub(crate) fn was_read(earlier: Option<FileKind>, kind: FileKind) -> bool
+    ensures { result ≡ spec.was_read earlier kind }
+{
+    match earlier {
+        Some(earlier) => clash(earlier, kind).is_some(),
+        None => false,
+    }
+}
+
 /// Why a job is not begun after this error on opening its input or its output.
 pub fn unopened(e: &io::Error, which: Unopened) -> Unopened
     ensures { IsCause (error_kind e.now) which result }
@@ -142,30 +188,107 @@ pub fn unopened(e: &io::Error, which: Unopened) -> Unopened
     }
 }
 
-/// Opens the devices of a job, the input before the output. They are refused where both are one file, or may be. Of
-/// devices that are refused nothing was read and nothing written.
+/// Opens standard output, unless it is a file that was read.
+pub(crate) fn open_stream<S: System>(
+    system: &mut S,
+    input: FileKind,
+    earlier: Option<FileKind>,
+) -> Result<Opened<S::Output>, Unopened>
+    ensures { spec.OpensStream S.may_do input earlier system.old result system.new }
+{
+    let output = match system.stdout() {
+        Ok(output) => output,
+        Err(e) => return Err(unopened(&e, Unopened::Output)),
+    };
+    if was_read(earlier, output.kind) {
+        let _ = system.close(output.device);
+        return Err(Unopened::Output);
+    }
+    if let Some(cause) = clash(input, output.kind) {
+        let _ = system.close(output.device);
+        return Err(cause);
+    }
+    Ok(output)
+}
+
+/// Opens what is written at a path, unless what was opened is barred.
+fn create_output<S: System>(
+    system: &mut S,
+    path: &str,
+    input: FileKind,
+    overwrites: bool,
+) -> Result<Opened<S::Output>, Unopened>
+    ensures { spec.CreatesOutput S.may_do path.now overwrites input system.old result system.new }
+{
+    let output = match system.create(path) {
+        Ok(output) => output,
+        Err(e) => return Err(unopened(&e, Unopened::Output)),
+    };
+    if let Some(cause) = barred(input, output.kind, overwrites) {
+        let _ = system.close(output.device);
+        return Err(cause);
+    }
+    Ok(output)
+}
+
+/// Opens what is written at a path, unless what is there is barred, as it is seen at the path before it is opened, and
+/// then by the open file.
+fn open_file<S: System>(
+    system: &mut S,
+    word: &[u8],
+    input: FileKind,
+    overwrites: bool,
+) -> Result<Opened<S::Output>, Unopened>
+    ensures { spec.OpensFile S.may_do word.now overwrites input system.old result system.new }
+{
+    let Ok(path) = path(word) else {
+        return Err(Unopened::Output);
+    };
+    let there = match system.kind_at(path) {
+        Ok(there) => there,
+        Err(e) => return Err(unopened(&e, Unopened::Output)),
+    };
+    if let Some(cause) = barred_at(input, there, overwrites) {
+        return Err(cause);
+    }
+    create_output(system, path, input, overwrites)
+}
+
+/// Opens an output, `-` for standard output, after an input of this kind was opened. The output is refused where it is
+/// the input, or may be, and where it is a file that holds bytes and is not to be overwritten.
+fn open_output<S: System>(
+    system: &mut S,
+    word: &[u8],
+    input: FileKind,
+    overwrites: bool,
+) -> Result<Opened<S::Output>, Unopened>
+    ensures { OpensOutput S.may_do word.now overwrites input system.old result system.new }
+{
+    if word == STANDARD {
+        return open_stream(system, input, None);
+    }
+    open_file(system, word, input, overwrites)
+}
+
+/// Opens the devices of a job, the input before the output. Of devices that are refused nothing was read and nothing
+/// written.
 pub fn open_devices<S: System>(
     system: &mut S,
     input: &[u8],
     output: &[u8],
+    overwrites: bool,
 ) -> Result<(Opened<S::Input>, Opened<S::Output>), Unopened>
-    ensures { OpensDevices S.may_do input.now output.now system.old result system.new }
+    ensures { OpensDevices S.may_do input.now output.now overwrites system.old result system.new }
 {
     let input = match open_input(system, input) {
         Ok(input) => input,
         Err(e) => return Err(unopened(&e, Unopened::Input)),
     };
-    let output = match open_output(system, output) {
-        Ok(output) => output,
-        Err(e) => {
+    match open_output(system, output, input.kind, overwrites) {
+        Ok(output) => Ok((input, output)),
+        Err(cause) => {
             system.release(input.device);
-            return Err(unopened(&e, Unopened::Output));
+            Err(cause)
         }
-    };
-    if let Some(cause) = clash(input.kind, output.kind) {
-        system.close(output.device);
-        system.release(input.device);
-        return Err(cause);
     }
-    Ok((input, output))
 }

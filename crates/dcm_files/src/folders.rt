@@ -70,12 +70,18 @@ pub trait Folders: System {
     fn find(&mut self, path: &str, links: Links) -> io::Result<Option<Found>>
         ensures { folders_do.finds self.old path.now links result self.new };
 
-    /// Makes a folder at a path at which nothing is. An error where something is.
-    fn make_folder(&mut self, path: &str) -> io::Result<()>
-        ensures { folders_do.makes_folder self.old path.now result self.new };
+    /// Who may read, write and enter the folder of a name in a folder: nine bits. Of no name it is that folder, which may
+    /// be at a link; the other one may not. An error where it is no folder, or cannot be looked at.
+    fn mode_in(&mut self, folder: &[u8], name: &[u8]) -> io::Result<u32>
+        ensures { folders_do.modes self.old folder.now name.now result self.new };
+
+    /// Makes a folder at a path at which nothing is, with these bits of its mode that the process leaves to new ones. An
+    /// error where something is.
+    fn make_folder(&mut self, path: &str, mode: u32) -> io::Result<()>
+        ensures { folders_do.makes_folder self.old path.now mode result self.new };
 
     /// What is written at a path at which nothing was, with these bits of its mode that the process leaves to new
-    /// files. An error where something is.
+    /// files. It is held, as by `seize`. An error where something is, or where another run has locked what was made.
     fn create_as(&mut self, path: &str, mode: u32) -> io::Result<Opened<Self::Output>>
         ensures { folders_do.makes_as self.old path.now mode result self.new };
 

@@ -6,18 +6,18 @@ use crate::calls::Calls;
 use crate::devices::System;
 use crate::folders::{EntryName, Folders, Found, FoundKind, Links};
 use crate::host_folder::HostFolder;
-use crate::modes::{USUAL_MODE, give_mode, mode_of};
+use crate::modes::{USUAL_MODE, give_mode, links_of, mode_found, mode_of, path_below};
 use crate::opened::{FileKind, Opened};
 use crate::output::OutputFile;
 use dcm_devices::{Device, Std, StdReader};
 use either::{Either, Left, Right};
 use std::alloc::AllocError;
 use std::env::{Env, FillError};
-use std::fs::{File, Files, Metadata, OpenOptions};
-use std::io::{BufWriter, ErrorKind, Read, Stdin, Stdout};
+use std::fs::{DirBuilder, File, Files, Metadata, OpenOptions, TryLockError};
+use std::io::{BufWriter, ErrorKind, Read, Stdin, Stdout, Write};
 use std::os::fd::AsFd;
-use std::os::unix::fs::{MetadataExt, OpenOptionsExt};
-use std::{fs, io};
+use std::os::unix::fs::{DirBuilderExt, MetadataExt, OpenOptionsExt};
+use std::{fs, io, str};
 
 /// What can be neither read nor written, for a standard stream that is closed.
 const NOTHING: &str = "/";
@@ -181,23 +181,88 @@ fn kind_at_path(rt: HostRuntime, path: &str) -> io::Result<Option<FileKind>> {
     }
 }
 
-/// Opens what is written at a path at which nothing was, with bits of a mode. Nobody asks what a new file is. Without
-/// memory for the buffer it is removed again.
-fn create_new_as(rt: HostRuntime, path: &str, mode: u32) -> io::Result<Opened<HostOutput>>
-    ensures { IfOk result (λ opened. IsNew opened.device) }
-{
+/// Who has locked a file.
+#[derive(Clone, Copy)]
+enum Locking {
+    /// This run.
+    Ours,
+    /// Another one.
+    Anothers,
+    /// Nobody: its file system has no locks.
+    Nobodys,
+}
+
+/// Locks a file, unless another run has locked it.
+fn lock(file: &File) -> Locking {
+    match file.try_lock() {
+        Ok(()) => Locking::Ours,
+        Err(TryLockError::WouldBlock) => Locking::Anothers,
+        Err(TryLockError::Error(_)) => Locking::Nobodys,
+    }
+}
+
+/// A new file at a path at which nothing was, with bits of a mode, which is locked where the file system has locks.
+fn new_file(rt: HostRuntime, path: &str, mode: u32) -> io::Result<File> {
     let file = OpenOptions::new()
         .write(true)
         .create_new(true)
         .mode(mode)
         .open(&rt, path)?;
-    match buffered(rt, Right(OutputFile::new(file)), FileKind::Unknown) {
-        Ok(opened) => Ok(opened),
-        Err(e) => {
-            let _ = fs::remove_file(&rt, path);
-            Err(e)
-        }
+    match lock(&file) {
+        Locking::Anothers => Err(io::Error::from(ErrorKind::AlreadyExists)),
+        Locking::Ours | Locking::Nobodys => Ok(file),
     }
+}
+
+/// What is written into a new file, and the file itself. Nobody asks what a new file is.
+fn new_output(rt: HostRuntime, file: File) -> io::Result<(Opened<HostOutput>, File)>
+    ensures { IfOk result (λ made. IsNew made.0.device) }
+{
+    let held = file.try_clone()?;
+    let opened = buffered(rt, Right(OutputFile::new(file)), FileKind::Unknown)?;
+    Ok((opened, held))
+}
+
+/// Opens a file to lock it.
+fn open_to_lock(rt: HostRuntime, path: &str) -> io::Result<File> {
+    match OpenOptions::new().write(true).open(&rt, path) {
+        Ok(file) => Ok(file),
+        Err(_) => File::open(&rt, path),
+    }
+}
+
+/// Whether an open file is what is at a path, a link as a link.
+fn is_at(rt: HostRuntime, file: &File, path: &str) -> io::Result<bool> {
+    let open = file.metadata()?;
+    let there = fs::symlink_metadata(&rt, path)?;
+    Ok(open.dev() == there.dev() && open.ino() == there.ino())
+}
+
+/// Whether an open file is known to be what is at a path.
+fn is_known_at(rt: HostRuntime, file: &File, path: &str) -> bool {
+    matches!(is_at(rt, file, path), Ok(true))
+}
+
+/// The file at a path, locked, or none where another run has locked it.
+fn locked_at(rt: HostRuntime, path: &str) -> io::Result<Option<File>> {
+    let file = open_to_lock(rt, path)?;
+    match lock(&file) {
+        Locking::Anothers => Ok(None),
+        Locking::Ours if is_at(rt, &file, path)? => Ok(Some(file)),
+        Locking::Ours => Err(io::Error::from(ErrorKind::NotFound)),
+        Locking::Nobodys => Err(io::Error::from(ErrorKind::Unsupported)),
+    }
+}
+
+/// Closes an output. What one that failed still holds is not written again. Standard output stays open. The system's own
+/// answer to the closing of a file is not seen: the kit has no call that gives this answer.
+fn close_output(output: HostOutput) -> io::Result<()> {
+    let failed = output.failed();
+    let mut writer = output.into_inner();
+    let flushed = if failed { Ok(()) } else { writer.flush() };
+    // A writer that is dropped writes what it holds once more, and one that is taken apart does not.
+    let (_closed, _unwritten) = writer.into_parts();
+    flushed
 }
 
 /// What is at a path, by what the system says of it.
@@ -230,6 +295,22 @@ fn find_at(rt: HostRuntime, path: &str, links: Links) -> io::Result<Option<Found
     }
 }
 
+/// The mode of the folder of a name in a folder, links not followed; of no name that of the folder itself, which may be
+/// at a link.
+fn mode_at(rt: HostRuntime, folder: &[u8], name: &[u8]) -> io::Result<u32> {
+    let Some(path) = path_below(folder, name) else {
+        return Err(io::Error::from(ErrorKind::InvalidFilename));
+    };
+    let Ok(text) = str::from_utf8(path.as_slice()) else {
+        return Err(io::Error::from(ErrorKind::InvalidFilename));
+    };
+    let found = find_at(rt, text, links_of(name))?;
+    match mode_found(found) {
+        Some(mode) => Ok(mode),
+        None => Err(io::Error::from(ErrorKind::NotADirectory)),
+    }
+}
+
 /// Opens a folder, to list its names.
 fn open_names(rt: HostRuntime, path: &str) -> io::Result<HostNames>
     ensures { IfOk result (λ folder. folder.pending ≡ []) }
@@ -242,6 +323,7 @@ fn open_names(rt: HostRuntime, path: &str) -> io::Result<HostNames>
 pub struct Host {
     rt: HostRuntime,
     calls: Calls,
+    held: Option<File>,
     _reserved: Reserved,
 }
 
@@ -261,10 +343,40 @@ impl Host {
             Ok(reserved) => Ok(Host {
                 rt,
                 calls: Calls::new(),
+                held: None,
                 _reserved: reserved,
             }),
             Err(cause) => Err(NoHost { _cause: cause }),
         }
+    }
+
+    /// Opens what is written at a path at which nothing was, with bits of a mode, and holds it. Where that fails after the
+    /// file was made it is removed again.
+    fn make_file(&mut self, path: &str, mode: u32) -> io::Result<Opened<HostOutput>>
+        ensures new { IfOk result (λ opened. IsNew opened.device) }
+        ensures calls { self.new.calls ≡ self.old.calls }
+    {
+        let file = new_file(self.rt, path, mode)?;
+        match new_output(self.rt, file) {
+            Ok((opened, held)) => {
+                self.held = Some(held);
+                Ok(opened)
+            }
+            Err(e) => {
+                let _ = fs::remove_file(&self.rt, path);
+                Err(e)
+            }
+        }
+    }
+
+    /// Locks the file at a path and holds it, unless another run has locked it.
+    fn lock_file(&mut self, path: &str) -> io::Result<bool>
+        ensures { self.new.calls ≡ self.old.calls }
+    {
+        let locked = locked_at(self.rt, path)?;
+        let is_held = locked.is_some();
+        self.held = locked;
+        Ok(is_held)
     }
 }
 
@@ -319,9 +431,24 @@ impl System for Host {
     }
 
     fn create_new(&mut self, path: &str) -> io::Result<Opened<Self::Output>> {
-        let opened = create_new_as(self.rt, path, USUAL_MODE);
+        let opened = self.make_file(path, USUAL_MODE);
         self.calls.note(path.as_bytes(), &opened);
         opened
+    }
+
+    fn seize(&mut self, path: &str) -> io::Result<bool> {
+        let seized = self.lock_file(path);
+        self.calls.note(path.as_bytes(), &seized);
+        seized
+    }
+
+    fn holds(&mut self, path: &str) -> bool {
+        let is_there = match &self.held {
+            Some(file) => is_known_at(self.rt, file, path),
+            None => false,
+        };
+        self.calls.note(path.as_bytes(), &is_there);
+        is_there
     }
 
     fn keep_mode(&mut self, from: &str, to: &str) -> io::Result<()> {
@@ -332,23 +459,23 @@ impl System for Host {
 
     fn rename(&mut self, from: &str, to: &str) -> io::Result<()> {
         let moved = fs::rename(&self.rt, from, to);
+        self.held = None;
         self.calls.note(from.as_bytes(), &(to.as_bytes(), &moved));
         moved
     }
 
     fn remove(&mut self, path: &str) -> io::Result<()> {
         let removed = fs::remove_file(&self.rt, path);
+        self.held = None;
         self.calls.note(path.as_bytes(), &removed);
         removed
     }
 
-    fn close(&mut self, output: Self::Output) {
+    fn close(&mut self, output: Self::Output) -> io::Result<()> {
         self.calls.note(b"", &output);
-        let failed = output.failed();
-        let writer = output.into_inner();
-        if failed {
-            let (_output, _unwritten) = writer.into_parts();
-        }
+        let closed = close_output(output);
+        self.calls.note(b"", &closed);
+        closed
     }
 }
 
@@ -380,14 +507,20 @@ impl Folders for Host {
         found
     }
 
-    fn make_folder(&mut self, path: &str) -> io::Result<()> {
-        let made = fs::create_dir(&self.rt, path);
-        self.calls.note(path.as_bytes(), &made);
+    fn mode_in(&mut self, folder: &[u8], name: &[u8]) -> io::Result<u32> {
+        let mode = mode_at(self.rt, folder, name);
+        self.calls.note(folder, &(name, &mode));
+        mode
+    }
+
+    fn make_folder(&mut self, path: &str, mode: u32) -> io::Result<()> {
+        let made = DirBuilder::new().mode(mode).create(&self.rt, path);
+        self.calls.note(path.as_bytes(), &(mode, &made));
         made
     }
 
     fn create_as(&mut self, path: &str, mode: u32) -> io::Result<Opened<Self::Output>> {
-        let opened = create_new_as(self.rt, path, mode);
+        let opened = self.make_file(path, mode);
         self.calls.note(path.as_bytes(), &(mode, &opened));
         opened
     }

@@ -3,8 +3,9 @@
 //!
 //! - `System` is what opens devices; `Host` is the real one, and `MemSystem` is over files in memory. A system answers
 //!   an `Opened`, a device with its `FileKind`. `Host` notes its `Calls` for proofs.
-//! - `open_devices` opens the input and the output that words name, `-` for a standard stream, and refuses two that are
-//!   one file. `open_input` and `open_output` open one of them; `clash` says why two are not used together.
+//! - `open_devices` opens the input and the output that words name, `-` for a standard stream. It refuses two that are
+//!   one file, and an output that holds bytes and is not to be overwritten. `open_input` opens an input alone; `clash` says
+//!   why two are not used together.
 //! - `Folders` is a system that lists folders, says what is at a name, and makes names.
 //! - `OutputFile` is a file that keeps what it held until its first byte is written. It is over any `Target`, of which
 //!   a `File` is one.
@@ -33,7 +34,7 @@ mod part;
 mod pieces;
 
 pub use calls::Calls;
-pub use devices::{System, clash, open_devices, open_input, open_output, unopened};
+pub use devices::{System, clash, open_devices, open_input, unopened};
 pub use folders::{EntryName, Folders, Found, FoundKind, Links, MOST_OF_ENTRY};
 pub use host::{Host, NoHost};
 pub use host_folder::HostFolder;

@@ -182,6 +182,17 @@ impl<'a> System for MemSystem<'a> {
         }
     }
 
+    fn seize(&mut self, path: &str) -> io::Result<bool> {
+        match file_named(self.files, path.as_bytes()) {
+            Some(_) => Ok(true),
+            None => Err(io::Error::from(ErrorKind::NotFound)),
+        }
+    }
+
+    fn holds(&mut self, path: &str) -> bool {
+        file_named(self.files, path.as_bytes()).is_some()
+    }
+
     fn keep_mode(&mut self, _from: &str, _to: &str) -> io::Result<()> {
         Ok(())
     }
@@ -195,8 +206,9 @@ impl<'a> System for MemSystem<'a> {
         Ok(())
     }
 
-    fn close(&mut self, output: Measured) {
+    fn close(&mut self, output: Measured) -> io::Result<()> {
         self.written = Some(output.into_inner());
+        Ok(())
     }
 }
 
@@ -226,7 +238,11 @@ impl<'a> Folders for MemSystem<'a> {
         }
     }
 
-    fn make_folder(&mut self, _path: &str) -> io::Result<()> {
+    fn mode_in(&mut self, _folder: &[u8], _name: &[u8]) -> io::Result<u32> {
+        Err(io::Error::from(ErrorKind::NotFound))
+    }
+
+    fn make_folder(&mut self, _path: &str, _mode: u32) -> io::Result<()> {
         Err(io::Error::from(ErrorKind::Unsupported))
     }
 

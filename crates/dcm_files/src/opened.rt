@@ -31,6 +31,8 @@ pub enum Unopened {
     Output,
     /// The output is the file that is read.
     Same,
+    /// The output is a file that holds bytes, and is not to be overwritten.
+    There,
     /// What is written until the output is whole is there: another run is at work, or was cut off.
     Part,
     /// Opening one of them wants memory.

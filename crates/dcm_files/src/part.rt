@@ -3,7 +3,9 @@ ghost use Rattle.std.specs.Prelude.{◌≡◌, ◌++◌, ◌≤◌, IfOk, IfErr,
 ghost use Rattle.std.specs.IoError.{error_kind};
 ghost use Rattle.dcm_files.specs.Part as spec;
 
-use crate::devices::{STANDARD, System, clash, open_input, path, unopened};
+use crate::devices::{
+    STANDARD, System, clash, open_input, open_stream, path, stays, unopened, was_read,
+};
 use crate::opened::{FileKind, Opened, Unopened};
 use arrayvec::ArrayVec;
 use std::io;
@@ -31,16 +33,6 @@ fn part_of(output: &[u8]) -> io::Result<ArrayVec<u8, LONGEST>>
     }
 }
 
-/// Whether a file may be put in the place of what is there: nothing, or a regular file that was not read.
-fn may_replace(there: Option<FileKind>, input: FileKind, earlier: Option<FileKind>) -> bool
-    ensures { result ≡ spec.may_replace there input earlier }
-{
-    match there {
-        None => true,
-        Some(kind) => is_regular(kind) && clash(input, kind).is_none() && !was_read(earlier, kind),
-    }
-}
-
 /// Whether it is a regular file.
 fn is_regular(kind: FileKind) -> bool
     ensures { result ≡ spec.is_regular kind }
@@ -48,13 +40,42 @@ fn is_regular(kind: FileKind) -> bool
     matches!(kind, FileKind::Regular { .. })
 }
 
-/// Whether it is the file that was read earlier.
-fn was_read(earlier: Option<FileKind>, kind: FileKind) -> bool
-    ensures { result ≡ spec.was_read earlier kind }
+/// That a file was read earlier.
+fn read_earlier(earlier: Option<FileKind>, kind: FileKind) -> Option<Unopened>
+    ensures { result ≡ spec.read_earlier earlier kind }
 {
-    match earlier {
-        Some(earlier) => clash(earlier, kind).is_some(),
-        None => false,
+    if was_read(earlier, kind) {
+        return Some(Unopened::Output);
+    }
+    None
+}
+
+/// That it is no regular file.
+fn irregular(kind: FileKind) -> Option<Unopened>
+    ensures { result ≡ spec.irregular kind }
+{
+    if is_regular(kind) {
+        return None;
+    }
+    Some(Unopened::Output)
+}
+
+/// Why no file is put in the place of what is there: it was read, as the input or earlier; or it stays; or it is no
+/// regular file.
+fn unreplaced(
+    there: Option<FileKind>,
+    input: FileKind,
+    earlier: Option<FileKind>,
+    overwrites: bool,
+) -> Option<Unopened>
+    ensures { result ≡ spec.unreplaced overwrites there input earlier }
+{
+    match there {
+        None => None,
+        Some(kind) => clash(input, kind)
+            .or(read_earlier(earlier, kind))
+            .or(stays(kind, overwrites))
+            .or(irregular(kind)),
     }
 }
 
@@ -64,16 +85,27 @@ fn find_part<S: System>(
     output: &[u8],
     input: FileKind,
     earlier: Option<FileKind>,
-) -> io::Result<ArrayVec<u8, LONGEST>>
+    overwrites: bool,
+) -> Result<ArrayVec<u8, LONGEST>, Unopened>
     ensures ok { IfOk result (λ part. part.items ≡ spec.part_of output.now) }
-    ensures found { OnOk result (spec.FindsPart S.may_do output.now input earlier system.old system.new) }
-    ensures err { IfErr result (λ e. spec.FindsNoPart S.may_do output.now input earlier system.old e system.new) }
+    ensures found { OnOk result (spec.FindsPart S.may_do output.now overwrites input earlier system.old system.new) }
+    ensures err { IfErr result
+        (λ u. spec.FindsNoPart S.may_do output.now overwrites input earlier system.old u system.new) }
 {
-    let there = system.kind_at(path(output)?)?;
-    if !may_replace(there, input, earlier) {
-        return Err(io::Error::from(ErrorKind::InvalidInput));
+    let Ok(path) = path(output) else {
+        return Err(Unopened::Output);
+    };
+    let there = match system.kind_at(path) {
+        Ok(there) => there,
+        Err(e) => return Err(unopened(&e, Unopened::Output)),
+    };
+    if let Some(cause) = unreplaced(there, input, earlier, overwrites) {
+        return Err(cause);
     }
-    part_of(output)
+    match part_of(output) {
+        Ok(part) => Ok(part),
+        Err(_) => Err(Unopened::Output),
+    }
 }
 
 /// Why a part was not made, by the error.
@@ -106,36 +138,14 @@ fn open_part<S: System>(
     output: &[u8],
     input: FileKind,
     earlier: Option<FileKind>,
+    overwrites: bool,
 ) -> Result<Opened<S::Output>, Unopened>
-    ensures { spec.OpensPart S.may_do output.now input earlier system.old result system.new }
+    ensures { spec.OpensPart S.may_do output.now overwrites input earlier system.old result system.new }
 {
-    match find_part(system, output, input, earlier) {
+    match find_part(system, output, input, earlier, overwrites) {
         Ok(part) => make_part(system, part.as_slice()),
-        Err(e) => Err(unopened(&e, Unopened::Output)),
+        Err(cause) => Err(cause),
     }
-}
-
-/// Opens standard output, unless it is a file that was read.
-fn open_stream<S: System>(
-    system: &mut S,
-    input: FileKind,
-    earlier: Option<FileKind>,
-) -> Result<Opened<S::Output>, Unopened>
-    ensures { spec.OpensStream S.may_do input earlier system.old result system.new }
-{
-    let output = match system.stdout() {
-        Ok(output) => output,
-        Err(e) => return Err(unopened(&e, Unopened::Output)),
-    };
-    if was_read(earlier, output.kind) {
-        system.close(output.device);
-        return Err(Unopened::Output);
-    }
-    if let Some(cause) = clash(input, output.kind) {
-        system.close(output.device);
-        return Err(cause);
-    }
-    Ok(output)
 }
 
 /// Opens an output that has its name only once it is whole, `-` for standard output.
@@ -144,30 +154,33 @@ fn open_whole<S: System>(
     output: &[u8],
     input: FileKind,
     earlier: Option<FileKind>,
+    overwrites: bool,
 ) -> Result<Opened<S::Output>, Unopened>
-    ensures { spec.OpensWhole S.may_do output.now input earlier system.old result system.new }
+    ensures { spec.OpensWhole S.may_do output.now overwrites input earlier system.old result system.new }
 {
     if output == STANDARD {
         return open_stream(system, input, earlier);
     }
-    open_part(system, output, input, earlier)
+    open_part(system, output, input, earlier, overwrites)
 }
 
 /// Opens the input of a job, and then its output, which has its name only once it is whole. They are refused where the
-/// output is the file that is read, or one that was read earlier.
+/// output is the file that is read, or one that was read earlier, or a file that holds bytes and is not to be
+/// overwritten.
 pub fn open_whole_devices<S: System>(
     system: &mut S,
     input: &[u8],
     output: &[u8],
+    overwrites: bool,
     earlier: Option<FileKind>,
 ) -> Result<(Opened<S::Input>, Opened<S::Output>), Unopened>
-    ensures { spec.OpensWholeDevices S.may_do input.now output.now earlier system.old result system.new }
+    ensures { spec.OpensWholeDevices S.may_do input.now output.now overwrites earlier system.old result system.new }
 {
     let input = match open_input(system, input) {
         Ok(input) => input,
         Err(e) => return Err(unopened(&e, Unopened::Input)),
     };
-    match open_whole(system, output, input.kind, earlier) {
+    match open_whole(system, output, input.kind, earlier, overwrites) {
         Ok(output) => Ok((input, output)),
         Err(cause) => {
             system.release(input.device);

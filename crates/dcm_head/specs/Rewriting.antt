@@ -9,8 +9,8 @@ use Rattle.dcm_base.specs.Tables.Tag.{is_tag}
 use Rattle.dcm_base.specs.Tree.Tree.{Trees, no_tree, leaf}
 use Rattle.dcm_base.specs.Bytes.Spelling.{Spells}
 use Rattle.dcm_base.specs.File.MetaGroup.{AreMeta}
-use Rattle.dcm_base.specs.Conversion.Recode.{recoded_leaf, unless_dropped}
-use Rattle.dcm_base.specs.Conversion.NewMeta.{new_meta, with_syntax, without_syntax, Renewing, renewed}
+use Rattle.dcm_base.specs.Conversion.Recode.{recoded_leaf, recode_set, unless_dropped}
+use Rattle.dcm_base.specs.Conversion.NewMeta.{new_meta, with_syntax, without_syntax, NamesNoSyntax, Renewing, renewed}
 use Rattle.dcm_base.specs.Steps.Outputs.{Puts, Tells, Writer}
 use Rattle.dcm_head.specs.declared.element.MetaElement.{MetaElement}
 use Rattle.dcm_head.specs.declared.renewal.Renewed.{Renewed}
@@ -62,8 +62,14 @@ abbrev pub all_stays : Renewing
 all_stays tag vr value = Some value
 
 -- what a group becomes
-abbrev pub renewed_meta : Renewing → List ℕ → Trees → List ℕ
-renewed_meta new uid elements = new_meta (renewed new elements) uid
+abbrev pub renewed_meta : Renewing → (own : Trees) → List ℕ → Trees → List ℕ
+renewed_meta new own uid elements = new_meta (renewed new own elements) uid
+
+-- these bytes are elements, of which none names a transfer syntax
+pub record AreOwn (own : Trees) (bytes : List ℕ) : Type 0 where
+  pub bytes_are : bytes ≡ recode_set Little own
+  pub no_syntax : NamesNoSyntax own
+  pub few : length bytes ≤ 65536
 
 -- the first of the elements that bytes spell, with its value and the bytes after it
 abbrev pub FirstIs : List ℕ → Tag → Vr → List ℕ → List ℕ → Type 0
@@ -92,6 +98,6 @@ abbrev pub WroteGroup : {W T E : Type 0} → Writer W → (old new : W) → (gro
 WroteGroup w old new group uid r = WroteElements w old new group (λ elements. new_meta elements uid) r
 
 -- a group was written anew, with what stays of it
-abbrev pub WroteRenewed : {W T E : Type 0} → Writer W → (old new : W) → Renewing → (group uid : List ℕ) → Result T E
-    → Type 0
-WroteRenewed w old new renewing group uid r = WroteElements w old new group (renewed_meta renewing uid) r
+abbrev pub WroteRenewed : {W T E : Type 0} → Writer W → (old new : W) → Renewing → (own : Trees) → (group uid : List ℕ)
+    → Result T E → Type 0
+WroteRenewed w old new renewing own group uid r = WroteElements w old new group (renewed_meta renewing own uid) r

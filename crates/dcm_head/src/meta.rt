@@ -249,7 +249,8 @@ impl Meta {
         write_group(self.bytes(), uid.as_bytes(), out)
     }
 
-    /// Writes what stays of the meta group anew, with its length and this transfer syntax (PS3.10 7.1).
+    /// Writes what stays of the meta group anew, with its length and this transfer syntax (PS3.10 7.1), and behind it
+    /// the renewal's own elements.
     ///
     /// Fails where the writer fails, and has then written a beginning of the group.
     pub fn renewed<N: Renewal, W: DeviceOut>(
@@ -259,8 +260,8 @@ impl Meta {
         out: &mut Watched<W>,
     ) -> Result<(), WriteFailed>
         requires { reading.HasEnded self.now.end }
-        ensures { WroteRenewed W.DeviceOut out.old out.new (N.renewing renewal.now) (reading.group_of self.now)
-            uid.now result }
+        ensures { WroteRenewed W.DeviceOut out.old out.new (N.renewing renewal.now) (N.own renewal.now)
+            (reading.group_of self.now) uid.now result }
     {
         renew_meta(renewal, self.bytes(), uid.as_bytes(), out)
     }

@@ -1,6 +1,7 @@
 // What stays of a meta group that is written anew.
 ghost use Rattle.std.specs.Prelude.{◌≡◌, ◌<◌, IfSome, IfNone, None, Some, length, List, ℕ};
 ghost use Rattle.dcm_base.specs.Conversion.NewMeta.{Renewing};
+ghost use Rattle.dcm_base.specs.Tree.Tree.{Trees, no_tree};
 ghost use Rattle.dcm_head.specs.Rewriting as spec;
 
 use crate::element::MetaElement;
@@ -59,6 +60,13 @@ pub trait Renewal {
     fn renew(&self, element: MetaElement<'_>) -> Renewed
         ensures { spec.renewed_value result element.entry.value.now
             ≡ renewing self.now element.entry.tag element.entry.vr element.entry.value.now };
+
+    /// The elements that it puts behind those that stay.
+    ghost own: { Self → Trees };
+
+    /// The same as they are written.
+    fn own_elements(&self) -> &[u8]
+        ensures { spec.AreOwn (own self.now) result.now };
 }
 
 /// All elements stay as they are.
@@ -67,7 +75,13 @@ pub struct AllStays;
 impl Renewal for AllStays {
     ghost renewing = { λ self. spec.all_stays };
 
+    ghost own = { λ self. no_tree };
+
     fn renew(&self, _element: MetaElement<'_>) -> Renewed {
         Renewed::Same
+    }
+
+    fn own_elements(&self) -> &[u8] {
+        &[]
     }
 }

@@ -8,6 +8,7 @@ ghost use Rattle.dcm_base.specs.File.MetaGroup.{META_LIMIT as GROUP_LIMIT};
 ghost use Rattle.dcm_base.specs.Tables.Tag.{is_tag};
 ghost use Rattle.dcm_base.specs.declared.length.Length.TheVariants.{Known};
 ghost use Rattle.dcm_base.specs.Tables.Syntax.{Little};
+ghost use Rattle.dcm_base.specs.Tree.Tree.{no_tree};
 ghost use Rattle.dcm_head.specs.Rewriting as spec;
 
 use crate::element::{MetaElement, first_element};
@@ -17,7 +18,7 @@ use crate::renewal::{AllStays, Renewal, Renewed};
 use crate::syntax_uid::SyntaxUid;
 use crate::write::explicit_head;
 use arrayvec::ArrayVec;
-use dcm_base::{DeviceOut, Length, Syntax, Tag, Vr, Watched, WriteFailed, put_parts};
+use dcm_base::{DeviceOut, Length, Syntax, Tag, Vr, Watched, WriteFailed, put_all, put_parts};
 
 /// The size of a value with its pad byte.
 fn even(size: usize) -> usize
@@ -141,13 +142,13 @@ fn put_renewed<W: DeviceOut>(
     }
 }
 
-/// The size of the elements of the new group.
-fn elements_size<N: Renewal>(renewal: &N, group: &[u8], uid: &[u8]) -> usize
+/// The size of the elements that stay.
+fn stay_size<N: Renewal>(renewal: &N, group: &[u8], uid: &[u8]) -> usize
     requires group { length group.now ≤ GROUP_LIMIT }
     requires uid { length uid.now < 65535 }
     ensures size { spec.OfElements group.now (λ elements. result
-        ≡ length (new_elements (renewed (N.renewing renewal.now) elements) uid.now)) }
-    ensures limit { result < 2 ^ 32 }
+        ≡ length (new_elements (renewed (N.renewing renewal.now) no_tree elements) uid.now)) }
+    ensures limit { result < 2 ^ 31 }
 {
     let mut rest = group;
     let mut named = false;
@@ -161,8 +162,8 @@ fn elements_size<N: Renewal>(renewal: &N, group: &[u8], uid: &[u8]) -> usize
     size
 }
 
-/// Writes the elements of the new group.
-fn put_elements<N: Renewal, W: DeviceOut>(
+/// Writes the elements that stay.
+fn put_stay<N: Renewal, W: DeviceOut>(
     out: &mut Watched<W>,
     renewal: &N,
     group: &[u8],
@@ -171,7 +172,7 @@ fn put_elements<N: Renewal, W: DeviceOut>(
     requires group { length group.now ≤ GROUP_LIMIT }
     requires uid { length uid.now < 65535 }
     ensures { spec.WroteElements W.DeviceOut out.old out.new group.now
-        (λ elements. new_elements (renewed (N.renewing renewal.now) elements) uid.now) result }
+        (λ elements. new_elements (renewed (N.renewing renewal.now) no_tree elements) uid.now) result }
 {
     let mut rest = group;
     let mut named = false;
@@ -184,7 +185,36 @@ fn put_elements<N: Renewal, W: DeviceOut>(
     Ok(())
 }
 
-/// Writes what stays of a whole meta group anew, with its length and this transfer syntax (PS3.10 7.1).
+/// The size of the elements of the new group.
+fn elements_size<N: Renewal>(renewal: &N, group: &[u8], uid: &[u8]) -> usize
+    requires group { length group.now ≤ GROUP_LIMIT }
+    requires uid { length uid.now < 65535 }
+    ensures size { spec.OfElements group.now (λ elements. result
+        ≡ length (new_elements (renewed (N.renewing renewal.now) (N.own renewal.now) elements) uid.now)) }
+    ensures limit { result < 2 ^ 32 }
+{
+    stay_size(renewal, group, uid) + renewal.own_elements().len()
+}
+
+/// Writes the elements of the new group.
+fn put_elements<N: Renewal, W: DeviceOut>(
+    out: &mut Watched<W>,
+    renewal: &N,
+    group: &[u8],
+    uid: &[u8],
+) -> Result<(), WriteFailed>
+    requires group { length group.now ≤ GROUP_LIMIT }
+    requires uid { length uid.now < 65535 }
+    ensures { spec.WroteElements W.DeviceOut out.old out.new group.now
+        (λ elements. new_elements (renewed (N.renewing renewal.now) (N.own renewal.now) elements) uid.now) result }
+{
+    let own = renewal.own_elements();
+    put_stay(out, renewal, group, uid)?;
+    put_all(out, own)
+}
+
+/// Writes what stays of a whole meta group anew, with its length and this transfer syntax (PS3.10 7.1), and behind it
+/// the renewal's own elements.
 ///
 /// Fails where the writer fails, and has then written a beginning of the group.
 pub fn renew_meta<N: Renewal, W: DeviceOut>(
@@ -195,7 +225,8 @@ pub fn renew_meta<N: Renewal, W: DeviceOut>(
 ) -> Result<(), WriteFailed>
     requires group { length group.now ≤ GROUP_LIMIT }
     requires uid { length uid.now < 65535 }
-    ensures { spec.WroteRenewed W.DeviceOut out.old out.new (N.renewing renewal.now) group.now uid.now result }
+    ensures { spec.WroteRenewed W.DeviceOut out.old out.new (N.renewing renewal.now) (N.own renewal.now) group.now
+        uid.now result }
 {
     let size = elements_size(renewal, group, uid) as u32;
     put_leaf(out, Tag::META_LENGTH, Vr::UL, &size.to_le_bytes())?;

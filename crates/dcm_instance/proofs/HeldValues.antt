@@ -2,11 +2,12 @@
 use Rattle.std.proofs.Common.{◌≡◌, ◌∙◌, ap, sym, refl, ℕ, ◌+◌, ◌<◌, ◌≤◌, List, [], ◌∷◌, ◌++◌, append_assoc, length, take, drop, fold, Bool, true, false, ◌||◌, ◌&&◌, not, Option, Some, None, arith}
 use Rattle.std.specs.Prelude.{nat_le, nat_lt, if◌then◌else◌}
 use Rattle.std.specs.List.{list_all}
-use Rattle.std.proofs.lemmas.Bool.{lt-ltb, lt-leb, cases_lt}
+use Rattle.std.proofs.lemmas.Bool.{lt-leb, cases_lt}
 use mathlib.Core.Logic.{⊎_elim}
 use Rattle.std.proofs.lemmas.List.{length-append, append-nil, length-take, take-append-drop, take_all, drop_all}
 use Rattle.std.proofs.lemmas.List.Sums.{fold-append}
 use Rattle.dcm_base.specs.Tables.Transfer.{is_pad, without_pads}
+use Rattle.dcm_deid.proofs.Dropped.{item_room}
 use Rattle.dcm_deid.proofs.HeldValues.{longer_after, more_left, pads_after, pads_gone, some_left}
 use Rattle.dcm_uid.specs.Uid.{is_uid_byte}
 use Rattle.dcm_instance.specs.UidSink.{Held, held_uid, held_with, nothing_held}
@@ -23,16 +24,13 @@ one_more bytes l t b e = rw e refl
 one_longer : (bytes : List ℕ) (l t : Bool) (b : ℕ) → t ≡ false → (if t then holds (bytes ++ b ∷ []) l else holds bytes (l || not (is_pad b))) ≡ holds bytes (l || not (is_pad b))
 one_longer bytes l t b e = rw e refl
 
-room_left : (n : ℕ) → n < 64 → nat_lt n 64 ≡ true
-room_left n h = lt-ltb n 64 h
-
 no_room : (n : ℕ) → n ≡ 64 → nat_lt n 64 ≡ false
 no_room n e = ap (λ (m : ℕ). nat_lt m 64) e
 
 first_bytes : (bytes more : List ℕ) (l : Bool) → length bytes + length more ≤ 64 → fold held_with (holds bytes l) more ≡ holds (bytes ++ more) l
 first_bytes bytes [] l h = ap (λ (x : List ℕ). holds x l) (sym (append-nil bytes))
 first_bytes bytes (b ∷ more) l h =
-    ap (λ (x : Held). fold held_with x more) (one_more bytes l (nat_lt (length bytes) 64) b (room_left (length bytes) (omega (arith, h))))
+    ap (λ (x : Held). fold held_with x more) (one_more bytes l (nat_lt (length bytes) 64) b (item_room (length bytes) (omega (arith, h))))
     ∙ first_bytes (bytes ++ b ∷ []) more l (omega (arith, h, length-append bytes (b ∷ [])))
     ∙ ap (λ (x : List ℕ). holds x l) (append_assoc bytes (b ∷ []) more)
 

@@ -1,10 +1,11 @@
 -- The unique identifiers after what was read of a data set.
-use Rattle.std.proofs.Common.{◌≡◌, ◌∙◌, sym, ap, refl, subst, ℕ, suc, List, [], ◌∷◌, ◌++◌, length, map, fold, arith, Option, Some, None, Bool, true, false, ◌&&◌, ◌||◌}
+use Rattle.std.proofs.Common.{◌≡◌, ◌∙◌, sym, ap, refl, subst, ℕ, suc, List, ◌∷◌, ◌++◌, length, map, fold, arith, Option, Some, None, Bool, true, false, ◌&&◌, ◌||◌}
 use Rattle.std.specs.Prelude.{if◌then◌else◌}
 use Rattle.std.proofs.lemmas.List.Sums.{fold-append}
+use Rattle.dcm_lemmas.proofs.Choice.{if_false}
+use Rattle.dcm_lemmas.proofs.Truth.{or_after_false, or_first}
 use Rattle.dcm_base.specs.declared.tag.Tag.{Tag}
 use Rattle.dcm_base.specs.declared.vr.Vr.{Vr}
-use Rattle.dcm_base.specs.declared.length.Length.{Length}
 use Rattle.dcm_base.specs.declared.length.Length.TheVariants.{Known, Undefined}
 use Rattle.dcm_base.specs.declared.syntax.Syntax.{Syntax}
 use Rattle.dcm_base.specs.declared.form.Form.{Form}
@@ -13,11 +14,11 @@ use Rattle.dcm_base.specs.Tables.Tag.{sequence_end_tag, same_tag}
 use Rattle.dcm_base.specs.Tree.Tree.{Trees, no_tree, leaf, sequence, fragments}
 use Rattle.dcm_base.specs.Tree.Front.{Front, front, OpenTree, nothing_open, open_leaf, open_sequence, open_fragments}
 use Rattle.dcm_base.specs.Tree.Value.{order}
-use Rattle.dcm_base.specs.Bytes.Spelling.{Enclosed, TreesAt, ItemsAt, SpellsFront, inside, after, after_trees, form, read_as}
+use Rattle.dcm_base.specs.Bytes.Spelling.{TreesAt, ItemsAt, SpellsFront, inside, after, after_trees, form, read_as}
 use Rattle.dcm_base.specs.Reading.Reads.{Reads, ended as ended_front}
 use Rattle.dcm_base.specs.Reading.Stop.{Bar, Stop, complete, refused}
 use Rattle.dcm_base.specs.Steps.Atoms.{Atom, value_byte, closes_leaf, closes_sequence, fragments_then, open_fragment_atoms, end_atoms, ShowItems, ShowsOpen, trees_then, items_then, front_atoms, open_atoms}
-use Rattle.dcm_base.proofs.DataSets.Shown.{items_shown, trees_shown, open_shown}
+use Rattle.dcm_base.proofs.DataSets.Shown.{items_shown, trees_shown, open_shown, enclosed_shown}
 use Rattle.dcm_sinks.specs.Laws.{StaysShallow}
 use Rattle.dcm_sinks.proofs.Dumps.OpenLists.{stays_on, stays_opened, stays_bytes, stays_fragments, stays_same, stays_trees, stays_items}
 use Rattle.dcm_instance.specs.declared.names.InstanceUid.{InstanceUid}
@@ -103,13 +104,10 @@ state_at d a b c = record { depth = d; is_past = false; study = a; series = b; i
 alike : (d : ℕ) (a b c x y z : Value) → a ≡ x → b ≡ y → c ≡ z → state_at d a b c ≡ state_at d x y z
 alike d a b c x y z e f g = ap (λ (v : Value). state_at d v b c) e ∙ ap (λ (v : Value). state_at d x v c) f ∙ ap (λ (v : Value). state_at d x y v) g
 
-second_of : (t : Bool) (p q : UidState) → t ≡ false → (if t then p else q) ≡ q
-second_of t p q e = rw e refl
-
 leaf_closed : (a b c : Bool) (x y : Option Held) (bytes : List ℕ) → next (with_bytes (head_state false a b c x y) bytes) closes_leaf ≡ leaf_state a b c x y bytes
 unfolding state_at
 leaf_closed a b c x y bytes =
-    second_of (is_decided (with_bytes (head_state false a b c x y) bytes)) _ (step (with_bytes (head_state false a b c x y) bytes) closes_leaf) (still_open a b c x y bytes)
+    if_false (is_decided (with_bytes (head_state false a b c x y) bytes)) _ (step (with_bytes (head_state false a b c x y) bytes) closes_leaf) (still_open a b c x y bytes)
     ∙ alike 0 _ _ _ _ _ _ (leaf_value x a bytes) (leaf_value None b bytes) (leaf_value y c bytes)
 
 leaf_read : (a b c : Bool) (x y : Option Held) (bytes : List ℕ) (more : List Atom) → fold next (head_state false a b c x y) (map value_byte bytes ++ closes_leaf ∷ more) ≡ fold next (leaf_state a b c x y bytes) more
@@ -199,12 +197,6 @@ leaf_named x y a false c bytes study series instance passed more others ends res
     by_rest q e (goes_on u v known is f g h) =
         named_as x y _ _ _ _ _ _ passed passed others _ q e refl refl refl refl (goes_on u v known is (f ∙ leaf_first x a bytes study) g (h ∙ leaf_first y c bytes instance))
 
-either_true : (t u : Bool) → t ≡ true → (t || u) ≡ true
-either_true t u e = rw e refl
-
-second_alone : (t u : Bool) → t ≡ false → (t || u) ≡ u
-second_alone t u e = rw e refl
-
 -- a leaf
 leaf_case : (x y : Option Held) (tag : Tag) (vr : Vr) (value : List ℕ) (rest : Trees) (s : Syntax) (f : Form) (tail others : List Atom) → f ≡ a_value
     → ((u v : Option Held) → Named u v (there Study (after s tag vr value) rest) (there Series (after s tag vr value) rest) (there Instance (after s tag vr value) rest) (is_past_series rest) others (fold next (start_at u v) tail))
@@ -234,7 +226,7 @@ leaf_case x y tag vr value rest s f tail others fo goes = by_place (is_behind ta
     by_place : (past : Bool) → is_behind tag ≡ past → Named x y (there Study s (leaf tag vr value rest)) (there Series s (leaf tag vr value rest)) (there Instance s (leaf tag vr value rest)) (is_past_series (leaf tag vr value rest)) others
         (fold next (head_state (is_behind tag) (is_own (uid_tag Study) tag f) (is_own (uid_tag Series) tag f) (is_own (uid_tag Instance) tag f) x y) (map value_byte (order s vr value) ++ closes_leaf ∷ tail))
     by_place true e =
-        named_as x y None None None _ _ _ true _ others _ _ refl (none_there Study e) (none_there Series e) (none_there Instance e) (either_true (is_behind tag) _ e)
+        named_as x y None None None _ _ _ true _ others _ _ refl (none_there Study e) (none_there Series e) (none_there Instance e) (or_first (is_behind tag) _ e)
         (behind_named x y _ _ _ (map value_byte (order s vr value) ++ closes_leaf ∷ tail) others (is_behind tag) e)
     by_place false e =
         named_as x y
@@ -245,7 +237,7 @@ leaf_case x y tag vr value rest s f tail others fo goes = by_place (is_behind ta
         (fold next (head_state false (same_tag tag (uid_tag Study)) (same_tag tag (uid_tag Series)) (same_tag tag (uid_tag Instance)) x y) (map value_byte (order s vr value) ++ closes_leaf ∷ tail))
         (ap (λ (q : UidState). fold next q (map value_byte (order s vr value) ++ closes_leaf ∷ tail))
         (head_alike (is_behind tag) _ _ _ false _ _ _ x y e (own_value Study tag f fo) (own_value Series tag f fo) (own_value Instance tag f fo)))
-        (some_there Study e) (some_there Series e) (some_there Instance e) (second_alone (is_behind tag) _ e)
+        (some_there Study e) (some_there Series e) (some_there Instance e) (or_after_false (is_behind tag) _ e)
         (leaf_named x y (same_tag tag (uid_tag Study)) (same_tag tag (uid_tag Series)) (same_tag tag (uid_tag Instance)) (order s vr value)
         (value_in (uid_tag Study) t counted) (value_in (uid_tag Series) t counted) (value_in (uid_tag Instance) t counted) (is_past_series rest) tail others
         (λ is. (none_left Study is, none_left Series is, none_left Instance is))
@@ -268,17 +260,11 @@ list_case x y tag f more others whole rest passed none_value none all goes = by_
   where
     by_place : (past : Bool) → is_behind tag ≡ past → Named x y (whole Study) (whole Series) (whole Instance) (is_behind tag || passed) others (fold next (head_state (is_behind tag) (is_own (uid_tag Study) tag f) (is_own (uid_tag Series) tag f) (is_own (uid_tag Instance) tag f) x y) more)
     by_place true e =
-        named_as x y None None None (whole Study) (whole Series) (whole Instance) true (is_behind tag || passed) others (fold next (head_state (is_behind tag) (is_own (uid_tag Study) tag f) (is_own (uid_tag Series) tag f) (is_own (uid_tag Instance) tag f) x y) more) (fold next (head_state (is_behind tag) (is_own (uid_tag Study) tag f) (is_own (uid_tag Series) tag f) (is_own (uid_tag Instance) tag f) x y) more) refl (none Study e) (none Series e) (none Instance e) (either_true (is_behind tag) passed e)
+        named_as x y None None None (whole Study) (whole Series) (whole Instance) true (is_behind tag || passed) others (fold next (head_state (is_behind tag) (is_own (uid_tag Study) tag f) (is_own (uid_tag Series) tag f) (is_own (uid_tag Instance) tag f) x y) more) (fold next (head_state (is_behind tag) (is_own (uid_tag Study) tag f) (is_own (uid_tag Series) tag f) (is_own (uid_tag Instance) tag f) x y) more) refl (none Study e) (none Series e) (none Instance e) (or_first (is_behind tag) passed e)
         (behind_named x y (is_own (uid_tag Study) tag f) (is_own (uid_tag Series) tag f) (is_own (uid_tag Instance) tag f) more others (is_behind tag) e)
     by_place false e =
         named_as x y (rest Study) (rest Series) (rest Instance) (whole Study) (whole Series) (whole Instance) passed (is_behind tag || passed) others (fold next (head_state (is_behind tag) (is_own (uid_tag Study) tag f) (is_own (uid_tag Series) tag f) (is_own (uid_tag Instance) tag f) x y) more) (fold next (at 1 (value_at x) (value_at y)) more)
-        (ap (λ (q : UidState). fold next q more) (list_state x y tag f none_value e)) (all Study e) (all Series e) (all Instance e) (second_alone (is_behind tag) passed e) goes
-
--- what shows the contents shows what encloses them
-contents_shown : (s : Syntax) (end_tag : Tag) (declared : Length) (R : List ℕ → List ℕ → Type 0) (c e : List ℕ) (P : Type 0)
-    → ((b p : List ℕ) → R b p → P) → Enclosed s end_tag declared R c e → P
-contents_shown s end_tag (Known size) R c e P shown (i, ci, li, r) = shown i [] r
-contents_shown s end_tag Undefined R c e P shown (d, r, x) = shown c d r
+        (ap (λ (q : UidState). fold next q more) (list_state x y tag f none_value e)) (all Study e) (all Series e) (all Instance e) (or_after_false (is_behind tag) passed e) goes
 
 trees_named : (t : Trees) (s : Syntax) (x y : Option Held) (b p : List ℕ) (others : List Atom) → TreesAt s t b p → StaysShallow 0 (trees_then s t others)
     → Named x y (there Study s t) (there Series s t) (there Instance s t) (is_past_series t) others (fold next (start_at x y) (trees_then s t others))
@@ -291,7 +277,7 @@ trees_named (leaf tag vr value rest) s x y b p others (b', fo, head, more) low =
 trees_named (sequence tag vr declared items rest) s x y b p others (contents, b', fo, head, inner, more) low =
     let behind : List Atom = closes_sequence ∷ trees_then s rest others in
     let atoms : List Atom = items_then (inside s vr) items behind in
-    let shown : ShowItems items atoms behind = contents_shown (inside s vr) sequence_end_tag declared (ItemsAt (inside s vr) items) contents b' (ShowItems items atoms behind) (λ c d r. items_shown (inside s vr) items c d behind r) inner in
+    let shown : ShowItems items atoms behind = enclosed_shown (inside s vr) sequence_end_tag declared (ItemsAt (inside s vr) items) contents b' (ShowItems items atoms behind) (λ c d r. items_shown (inside s vr) items c d behind r) inner in
     let within = stays_opened 0 a_sequence tag vr declared s atoms fo low in
     let low_rest = stays_on 1 closes_sequence (trees_then s rest others) (stays_items 1 items atoms behind shown within) in
     list_case x y tag (form s (read_as s tag vr) declared) atoms others (λ w. there w s (sequence tag vr declared items rest)) (λ w. there w s rest) (is_past_series rest) (ap is_value fo)
@@ -396,11 +382,11 @@ front_named trees o r r' c c' s read (others, placed, op, re, cl) low =
   where
     by_trees : (atoms : List Atom) (p : UidState) → ShowsOpen o (end_atoms c') atoms → StaysShallow 0 atoms → Named None None (there Study s trees) (there Series s trees) (there Instance s trees) (is_past_series trees) atoms p
         → (outcome p ≡ named (fit_of (there Study s trees)) (fit_of (there Series s trees)) (fit_of (there Instance s trees))) × (is_decided p ≡ (is_past_series trees || is_open_behind o))
-    by_trees atoms p shown low_open (over known decided f g h) = (three_alike _ _ _ _ _ _ f g h, decided ∙ sym (either_true (is_past_series trees) (is_open_behind o) known))
+    by_trees atoms p shown low_open (over known decided f g h) = (three_alike _ _ _ _ _ _ f g h, decided ∙ sym (or_first (is_past_series trees) (is_open_behind o) known))
     by_trees atoms p shown low_open (goes_on u v known is f g h) =
         let k = open_keeps o c' u v atoms shown low_open in (
           ap outcome is ∙ three_alike _ _ _ _ _ _ (k.study ∙ f) (k.series ∙ sym (ap fit_of g)) (k.instance ∙ h),
-          ap is_decided is ∙ k.decided ∙ sym (second_alone (is_past_series trees) (is_open_behind o) known),
+          ap is_decided is ∙ k.decided ∙ sym (or_after_false (is_past_series trees) (is_open_behind o) known),
         )
 
 read_named : (stop : Stop) (f : Front) (s : Syntax) (read : List ℕ) → SpellsFront s f read → StaysShallow 0 (front_atoms s (ended_front stop f)) → Says s (ended_front stop f)

@@ -1,25 +1,16 @@
 -- Two readers, by the calls that are made of them.
-use Rattle.std.proofs.Common.{◌≡◌, ◌≢◌, ◌∙◌, ap, sym, subst, refl, inl, inr, ℕ, ◌<◌, ◌≤◌, List, [], ◌∷◌, ◌++◌, append_assoc, length, take, Bool, true, false, nat_eq, ◌⊎◌, Option, Some, None, unwrap_or, arith}
+use Rattle.std.proofs.Common.{◌≡◌, ◌≢◌, ◌∙◌, ap, sym, subst, refl, inl, inr, ℕ, ◌<◌, ◌≤◌, List, [], ◌∷◌, ◌++◌, append_assoc, length, take, Bool, true, false, nat_eq, ◌⊎◌, Some, None, unwrap_or, arith}
 use Rattle.std.proofs.lemmas.Bool.Decides.{eqb_tells}
 use Rattle.std.proofs.lemmas.List.{append-nil, length-take-le, take-append-le, take_at}
 use Rattle.std.specs.Io.KnownBytes.{prepend_known, IsAtEnd}
 use Rattle.dcm_base.specs.Reading.Reads.{INPUT_LIMIT}
-use Rattle.dcm_cli.specs.InputCalls.{Reader, How, in_part, to_end, with_failure, how_of, TellsHow, InputCalls, no_call, last_call, ReadsInput}
+use Rattle.dcm_cli.proofs.Passes.Readers.{gave_append, how_given}
+use Rattle.dcm_cli.specs.InputCalls.{Reader, How, in_part, to_end, with_failure, TellsHow, InputCalls, no_call, last_call, ReadsInput}
 use Rattle.dcm_cli.proofs.Passes.Passes.{read_nothing, read_twice}
 use Rattle.dcm_devices.specs.Device.{Gave, no_calls, and_call}
 use Rattle.dcm_instance.specs.Same.{InFront, Compares, Differ, Ends, GaveAll, GaveElse, GaveMore, GaveOther, differ, first_failed, second_failed, too_long}
 
 -- ---- calls, and then others
-
-gave_append : {R : Type 0} (gets : R → Option (List ℕ) → R → Type 0) (old mid new : R) (xs ys : List ℕ) → Gave gets old xs mid → Gave gets mid ys new → Gave gets old (xs ++ ys) new
-gave_append gets old mid new xs ys first (no_calls none same) =
-    subst (λ (bs : List ℕ). Gave gets old bs new) (sym (ap (λ (zs : List ℕ). xs ++ zs) none ∙ append-nil xs)) (subst (λ r. Gave gets old xs r) (sym same) first)
-gave_append gets old mid new xs ys first (and_call before piece last calls call some is) =
-    and_call (xs ++ before) piece last (gave_append gets old mid last xs before first calls) call some (ap (λ (zs : List ℕ). xs ++ zs) is ∙ sym (append_assoc xs before piece))
-
-how_given : (piece : List ℕ) → 0 < length piece → in_part ≡ how_of (Some piece)
-how_given [] some = absurd (omega (arith, some))
-how_given (b ∷ bs) some = refl
 
 module _ {R : Type 0} (r : Reader R) where
   pub nothing_gave : (old : R) → GaveAll r old old []

@@ -2,6 +2,7 @@
 use Rattle.std.proofs.Common.{◌≡◌, ◌∙◌, ap, sym, refl, ◌⊎◌, inl, inr, ℕ, ◌+◌, ◌≤◌, List, [], ◌∷◌, ◌++◌, length, Bool, true, false, ◌||◌, Option, Some, None, fold}
 use Rattle.std.specs.Prelude.{is_some, if◌then◌else◌, Result}
 use Rattle.std.proofs.lemmas.List.Sums.{fold-append}
+use Rattle.dcm_lemmas.proofs.Options.{some_none}
 use Rattle.dcm_base.specs.declared.fault.Fault.{Fault}
 use Rattle.dcm_base.specs.declared.syntax.Syntax.{Syntax}
 use Rattle.dcm_base.specs.Reading.Bars.{no_bar}
@@ -43,9 +44,6 @@ some_is x y e = cc
 
 none_some : (x : Answer) → None ≡ Some x → ⊥
 none_some x e = cc
-
-some_none : (x : Answer) → Some x ≡ None → ⊥
-some_none x e = cc
 
 none_by : (t u : Bool) (x : Answer) → (if t || u then Some x else None) ≡ None → (t ≡ false) × (u ≡ false)
 none_by true u x e = absurd (some_none x e)

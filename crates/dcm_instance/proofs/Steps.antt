@@ -1,6 +1,7 @@
 -- The steps of the sink.
 use Rattle.std.proofs.Common.{◌≡◌, ◌∙◌, ap, sym, refl, ℕ, List, [], ◌∷◌, map, fold, Bool, true, false}
 use Rattle.std.specs.Prelude.{if◌then◌else◌}
+use Rattle.dcm_lemmas.proofs.Choice.{if_false, if_true}
 use Rattle.dcm_base.specs.Steps.Atoms.{Atom, opens, value_byte, closes_leaf, opens_item, closes_item, closes_sequence, opens_fragment, ends}
 use Rattle.dcm_base.specs.Reading.Stop.{Stop, complete, refused}
 use Rattle.dcm_stream.specs.declared.token.Token.{Token}
@@ -52,14 +53,8 @@ bytes_step (b ∷ bytes) p =
 
 -- ---- while it is undecided, and from then on
 
-second_of : (t : Bool) (p q : UidState) → t ≡ false → (if t then p else q) ≡ q
-second_of t p q e = rw e refl
-
-pub first_of : (t : Bool) (p q : UidState) → t ≡ true → (if t then p else q) ≡ p
-first_of t p q e = rw e refl
-
 undecided_atom : (p : UidState) (a : Atom) → is_decided p ≡ false → uids_next p a ≡ step p a
-undecided_atom p a e = second_of (is_decided p) p (step p a) e
+undecided_atom p a e = if_false (is_decided p) p (step p a) e
 
 pub undecided_bytes : (bytes : List ℕ) (p : UidState) → is_decided p ≡ false → fold uids_next p (map value_byte bytes) ≡ fold step p (map value_byte bytes)
 undecided_bytes [] p e = refl
@@ -80,7 +75,7 @@ undecided_token End p e = undecided_atom p ends e
 pub decided_atoms : (atoms : List Atom) (p : UidState) → is_decided p ≡ true → fold uids_next p atoms ≡ p
 decided_atoms [] p e = refl
 decided_atoms (a ∷ atoms) p e =
-    ap (λ (q : UidState). fold uids_next q atoms) (first_of (is_decided p) p (step p a) e) ∙ decided_atoms atoms p e
+    ap (λ (q : UidState). fold uids_next q atoms) (if_true (is_decided p) p (step p a) e) ∙ decided_atoms atoms p e
 
 -- ---- the input's end
 

@@ -6,6 +6,7 @@ ghost use Rattle.dcm_instance.specs.Uids as spec;
 
 use arrayvec::ArrayVec;
 use dcm_base::Tag;
+use dcm_bytes::append;
 use dcm_head::without_pads;
 
 /// The most bytes of a unique identifier (PS3.5 6.2).
@@ -78,29 +79,18 @@ pub enum NoInstance {
     Unread,
 }
 
-/// Appends bytes, for which there is room.
-fn append<const N: usize>(out: &mut ArrayVec<u8, N>, bytes: &[u8])
-    requires { length out.old.items + length bytes.now ≤ N }
-    ensures { out.new.items ≡ out.old.items ++ bytes.now }
-{
-    match out.try_extend_from_slice(bytes) {
-        Ok(()) => (),
-        Err(_) => unreachable!(),
-    }
-}
-
 impl Instance {
     /// Its name below a folder: STUDY/SERIES/INSTANCE.dcm.
     pub fn name(&self) -> ArrayVec<u8, MOST_OF_INSTANCE_NAME>
         ensures { result.items ≡ spec.instance_name (spec.uids_of self.now) }
     {
         let mut name = ArrayVec::new();
-        append(&mut name, self.study.as_slice());
-        append(&mut name, b"/");
-        append(&mut name, self.series.as_slice());
-        append(&mut name, b"/");
-        append(&mut name, self.instance.as_slice());
-        append(&mut name, b".dcm");
+        append(self.study.as_slice(), &mut name);
+        append(b"/", &mut name);
+        append(self.series.as_slice(), &mut name);
+        append(b"/", &mut name);
+        append(self.instance.as_slice(), &mut name);
+        append(b".dcm", &mut name);
         name
     }
 }
@@ -142,6 +132,6 @@ pub(crate) fn fit(value: &[u8]) -> Option<Uid>
         return None;
     }
     let mut kept = ArrayVec::new();
-    append(&mut kept, uid);
+    append(uid, &mut kept);
     Some(kept)
 }

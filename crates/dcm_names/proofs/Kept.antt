@@ -70,9 +70,6 @@ opens_as kept line is_longer is longer short = ap can_be_opened is ∙ short_ope
 
 -- ---- the first bytes of a name
 
-pub taken_all : (n : ℕ) (l : List ℕ) → length l ≤ n → take n l ≡ l
-taken_all n l h = take_all n l h
-
 pub first_bytes : (limit : ℕ) (name : List ℕ) (n : ℕ) → n ≡ min (length name) limit → take n name ≡ take limit name
 first_bytes limit name n is = by_length (cases_lt limit (length name))
   where

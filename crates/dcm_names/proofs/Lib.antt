@@ -2,3 +2,4 @@ pub mod Lists
 pub mod Kept
 pub mod NameByName
 pub mod Texts
+pub mod Emptied

@@ -1,5 +1,5 @@
 -- The lines on standard error that name a file.
-use Rattle.std.specs.Prelude.{ℕ, List, [], ◌∷◌, ◌++◌, codes, decimal}
+use Rattle.std.specs.Prelude.{ℕ, zero, suc, List, [], ◌∷◌, ◌++◌, Bool, true, false, codes, decimal}
 use Rattle.dcm_base.specs.declared.fault.Stop.{Stop}
 use Rattle.dcm_base.specs.declared.tag.Tag.{Tag}
 use Rattle.dcm_base.specs.Tables.Fault.{fault_number, fault_text}
@@ -46,3 +46,19 @@ too_long_line name t =
 -- an edit, counted from 1, found no place in it
 abbrev pub unplaced_line : List ℕ → ℕ → List ℕ
 unplaced_line name edit = named_line name (codes "edit " ++ decimal edit ++ codes " found no place")
+
+-- dates of it that were moved have nothing left
+abbrev pub emptied_line : List ℕ → ℕ → List ℕ
+emptied_line name count = named_line name (decimal count ++ codes " dates are emptied")
+
+abbrev pub emptied_lines : List ℕ → (count : ℕ) → List ℕ
+emptied_lines name zero = []
+emptied_lines name (suc n) = emptied_line name (suc n)
+
+-- a value of Specific Character Set in it names what is not known
+abbrev pub unknown_line : List ℕ → List ℕ
+unknown_line name = named_line name (codes "character set is not known")
+
+abbrev pub unknown_lines : List ℕ → Bool → List ℕ
+unknown_lines name true = unknown_line name
+unknown_lines name false = []

@@ -4,8 +4,8 @@
 //!   matter: `lines_in_pieces` is the law.
 //! - `ListReader` reads a list out of a device, name by name.
 //! - `can_be_opened` says whether a name is one of a file at all.
-//! - `put_unopened`, `put_clash`, `put_unread`, `put_fault`, `put_too_long` and `put_unplaced` write a line that begins
-//!   with a name, `put_text` one of any text, `put_refusal` one of words that are refused, `put_at_once` any line.
+//! - `put_unopened`, `put_clash`, `put_unread`, `put_fault`, `put_too_long`, `put_unplaced`, `put_emptied` and
+//!   `put_unknown` write a line that begins with a name, `put_text` one of any text, `put_refusal` one of words that are refused, `put_at_once` any line.
 //!
 //! A list of two files, in one piece:
 //!
@@ -24,7 +24,7 @@ mod shown;
 pub use list::{MOST_OF_NAME, OpenLine, can_be_opened};
 pub use list_reader::{ListReader, NextName};
 pub use named_lines::{
-    put_at_once, put_clash, put_fault, put_refusal, put_text, put_too_long, put_unopened,
-    put_unplaced, put_unread,
+    put_at_once, put_clash, put_emptied, put_fault, put_refusal, put_text, put_too_long,
+    put_unknown, put_unopened, put_unplaced, put_unread,
 };
 pub use shown::shown_name;

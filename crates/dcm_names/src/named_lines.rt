@@ -195,3 +195,55 @@ pub fn put_unplaced<E: DeviceOut>(
     ];
     put_named(name, &text, errors)
 }
+
+/// Reports how many dates of a file, some, were moved and have nothing left. Fails where the writer fails.
+fn put_some_emptied<E: DeviceOut>(
+    name: &[u8],
+    count: u64,
+    errors: &mut Watched<E>,
+) -> Result<(), WriteFailed>
+    ensures { Wrote E.DeviceOut errors.old errors.new (spec.emptied_line name.now count) result }
+{
+    let mut digits = Buffer::new();
+    let text = [
+        digits.format(count).as_bytes(),
+        b" dates are emptied".as_slice(),
+    ];
+    put_named(name, &text, errors)
+}
+
+/// The same of any number: of none nothing is written.
+pub fn put_emptied<E: DeviceOut>(
+    name: &[u8],
+    count: u64,
+    errors: &mut Watched<E>,
+) -> Result<(), WriteFailed>
+    ensures { Wrote E.DeviceOut errors.old errors.new (spec.emptied_lines name.now count) result }
+{
+    if count == 0 {
+        return Ok(());
+    }
+    put_some_emptied(name, count, errors)
+}
+
+/// Reports that a value of Specific Character Set in a file names what is not known. Fails where the writer fails.
+fn put_unknown_set<E: DeviceOut>(name: &[u8], errors: &mut Watched<E>) -> Result<(), WriteFailed>
+    ensures { Wrote E.DeviceOut errors.old errors.new (spec.unknown_line name.now) result }
+{
+    put_named(name, &[b"character set is not known".as_slice()], errors)
+}
+
+/// Reports that a value of Specific Character Set in a file names what is not known, where that is so. Fails where the
+/// writer fails.
+pub fn put_unknown<E: DeviceOut>(
+    name: &[u8],
+    unknown: bool,
+    errors: &mut Watched<E>,
+) -> Result<(), WriteFailed>
+    ensures { Wrote E.DeviceOut errors.old errors.new (spec.unknown_lines name.now unknown) result }
+{
+    if !unknown {
+        return Ok(());
+    }
+    put_unknown_set(name, errors)
+}

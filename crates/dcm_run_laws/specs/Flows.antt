@@ -6,7 +6,7 @@ use Rattle.dcm_base.specs.File.MetaReads.{Meta}
 use Rattle.dcm_base.specs.Reading.Stop.{complete}
 use Rattle.dcm_base.specs.Tables.Transfer.{without_pads}
 use Rattle.dcm_base.specs.Tree.Front.{Front}
-use Rattle.dcm_base.specs.Tree.Tree.{Trees}
+use Rattle.dcm_base.specs.Tree.Tree.{Trees, no_tree}
 use Rattle.dcm_deid.specs.Alike.{Alike, moving}
 use Rattle.dcm_deid.specs.declared.fate.Depth.TheVariants.{Outermost}
 use Rattle.dcm_deid.specs.declared.fate.Options.{Options}
@@ -29,7 +29,7 @@ leaves options tag vr value = value_left (meta_fate options tag) value
 
 -- the meta elements that stay
 abbrev pub meta_left : Options → Meta → Trees
-meta_left options m = renewed (leaves options) m.elements
+meta_left options m = renewed (leaves options) no_tree m.elements
 
 -- the answer of dcmdeid to a file that was read without fault
 pub record IsDeidentified (options : Options) (reports : Bool) (key input : List ℕ) (a : Answer) (m : Meta)

@@ -6,9 +6,9 @@ mod nested;
 mod rebuilt;
 
 use dcm_test_runs::{
-    buildings, conversions, dictionaries, expect_rows, identities, identity_faults, identity_moved,
-    identity_named, identity_put, modifications, signs, text_cuts, text_extensions, text_sets,
-    text_terms, unknown,
+    buildings, conversions, dictionaries, expect_rows, identities, identity_emptied,
+    identity_faults, identity_heads, identity_moved, identity_named, identity_put, modifications,
+    named_elements, signs, text_cuts, text_extensions, text_sets, text_terms, unknown,
 };
 use std::test::Fail;
 
@@ -23,6 +23,11 @@ fn dumps_by_characters(rt: HostRuntime) -> Result<(), Fail> {
     expect_rows(rt.alloc(), &text_extensions())?;
     expect_rows(rt.alloc(), &text_terms())?;
     expect_rows(rt.alloc(), &text_cuts())
+}
+
+#[test]
+fn dumps_named_elements(rt: HostRuntime) -> Result<(), Fail> {
+    expect_rows(rt.alloc(), &named_elements())
 }
 
 #[test]
@@ -58,12 +63,14 @@ fn reads_unknown_sequences(rt: HostRuntime) -> Result<(), Fail> {
 #[test]
 fn takes_identity_out(rt: HostRuntime) -> Result<(), Fail> {
     expect_rows(rt.alloc(), &identities())?;
+    expect_rows(rt.alloc(), &identity_heads())?;
     expect_rows(rt.alloc(), &identity_put())
 }
 
 #[test]
 fn moves_dates_and_gives_pseudonyms(rt: HostRuntime) -> Result<(), Fail> {
     expect_rows(rt.alloc(), &identity_moved())?;
+    expect_rows(rt.alloc(), &identity_emptied())?;
     expect_rows(rt.alloc(), &identity_named())
 }
 

@@ -2,6 +2,7 @@
 pub mod LineParts
 pub mod ValueBytes
 pub mod OpenValues
+pub mod PassedOver
 pub mod Brackets
 pub mod ValueLines
 pub mod ValueRuns

@@ -19,15 +19,22 @@ use Rattle.dcm_sinks.specs.MetaLines.{IsValue}
 abbrev pub decoded_syntax_name : List ℕ → List ℕ
 decoded_syntax_name uid = option_map_or (λ name. name) (uid_name uid) (dumped EMPTY OneValue uid)
 
--- the header of a data set's lines
+-- its line
+abbrev pub used_syntax : List ℕ → List ℕ
+used_syntax uid = codes "# Used TransferSyntax: " ++ decoded_syntax_name uid ++ 10 ∷ []
+
+-- the header of the lines of a file's data set
 abbrev pub decoded_set_header : List ℕ → List ℕ
-decoded_set_header uid =
-    codes "# Dicom-Data-Set" ++ 10 ∷ [] ++ codes "# Used TransferSyntax: " ++ decoded_syntax_name uid ++ 10 ∷ []
+decoded_set_header uid = codes "# Dicom-Data-Set" ++ 10 ∷ [] ++ used_syntax uid
+
+-- of a data set alone; the first line of a dump says that texts are shown as characters
+abbrev pub decoded_alone_header : List ℕ → List ℕ
+decoded_alone_header uid = codes "# Dicom-Data-Set (texts in UTF-8)" ++ 10 ∷ [] ++ used_syntax uid
 
 -- the header of a file's lines, and its meta elements
 abbrev pub decoded_meta_header : Dictionary → Mode → Trees → List ℕ
 decoded_meta_header d mode elements =
-    codes "# Dicom-File-Format" ++ 10 ∷ 10 ∷ [] ++ codes "# Dicom-Meta-Information-Header" ++ 10 ∷ []
+    codes "# Dicom-File-Format (texts in UTF-8)" ++ 10 ∷ 10 ∷ [] ++ codes "# Dicom-Meta-Information-Header" ++ 10 ∷ []
     ++ codes "# Used TransferSyntax: LittleEndianExplicit" ++ 10 ∷ [] ++ decoded_set d mode EMPTY 0 elements ++ 10 ∷ []
 
 -- all that comes before the lines of the data set

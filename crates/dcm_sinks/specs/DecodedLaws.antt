@@ -1,5 +1,5 @@
 -- What the laws of the dump of texts speak of.
-use Rattle.std.specs.Prelude.{◌≡◌, ℕ, ◌≤◌, List, false}
+use Rattle.std.specs.Prelude.{◌≡◌, ℕ, ◌≤◌, List, false, fold}
 use Rattle.dcm_base.specs.declared.dictionary.Dictionary.{Dictionary}
 use Rattle.dcm_base.specs.declared.mode.Mode.{Mode}
 use Rattle.dcm_base.specs.declared.syntax.Syntax.{Syntax}
@@ -16,6 +16,7 @@ use Rattle.dcm_sinks.specs.InForce.{EMPTY}
 use Rattle.dcm_sinks.specs.DecodedDump.{decoded_front}
 use Rattle.dcm_sinks.specs.DecodedSink.{decoded_start, decoded_step, decoded_writes}
 use Rattle.dcm_sinks.specs.Laws.{StaysShallow}
+use Rattle.dcm_sinks.specs.Unknown.{has_unknown}
 use Rattle.dcm_sinks.specs.PlainTexts.{FrontOf, is_low}
 
 -- what the sink writes of the atoms of a data set is its dump by characters
@@ -50,3 +51,22 @@ DecodedOfAscii = (d : Dictionary) (mode : Mode) (sets : Sets) (level : ℕ) (f :
 abbrev pub DecodedOfLow : Type 0
 DecodedOfLow = (d : Dictionary) (mode : Mode) (sets : Sets) (level : ℕ) (f : Front) → FrontOf is_low sets f
     → decoded_front d mode sets level f ≡ dump_front d mode level f
+
+-- after the atoms of a data set the sink knows whether a value in it names what is not known
+abbrev pub UnknownShown : Type 0
+UnknownShown = (d : Dictionary) (mode : Mode) (f : Front) (atoms : List Atom) → Shows f atoms
+    → (fold decoded_step (decoded_start d mode) atoms).force.unknown ≡ has_unknown f
+
+-- so it is with all that is read of an input
+abbrev pub UnknownWhole : Type 0
+UnknownWhole =
+    (d : Dictionary) (mode : Mode) (s : Syntax) (start : ℕ) (bytes : List ℕ) (f : Front) (stop : Stop)
+    → start ≤ INPUT_LIMIT → Reads no_bar s start bytes f stop
+    → (fold decoded_step (decoded_start d mode) (front_atoms s f)).force.unknown ≡ has_unknown f
+
+-- and with what was read of it so far
+abbrev pub UnknownSoFar : Type 0
+UnknownSoFar =
+    (d : Dictionary) (mode : Mode) (s : Syntax) (start : ℕ) (bytes : List ℕ) (f : Front) (stop : Stop)
+    → start ≤ INPUT_LIMIT → is_closed f ≡ false → Reads no_bar s start bytes (ended stop f) stop
+    → (fold decoded_step (decoded_start d mode) (front_atoms s f)).force.unknown ≡ has_unknown (ended stop f)

@@ -23,3 +23,7 @@ decoded_writes s a = text_writes s.force.sets s.shown a
 
 abbrev pub bars_no_head : DecodedState → Head → Option Bar
 bars_no_head s head = None
+
+-- after an atom of which nothing is shown, but which goes on with what is in force
+abbrev pub passed_over : DecodedState → Atom → DecodedState
+passed_over s a = record s { force = force_step s.force a }

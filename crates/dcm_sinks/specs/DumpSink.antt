@@ -149,3 +149,7 @@ dump_writes s a = if s.is_lost then [] else live_writes s a
 
 abbrev pub bars_nothing : DumpState → Head → Option Bar
 bars_nothing s head = None
+
+-- an atom of which nothing is shown leaves all as it is
+abbrev pub as_before : DumpState → Atom → DumpState
+as_before s a = s

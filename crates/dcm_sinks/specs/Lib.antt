@@ -11,6 +11,7 @@ pub mod Conversion
 pub mod MetaAgain
 pub mod MetaLines
 pub mod InForce
+pub mod Unknown
 pub mod SettingValue
 pub mod DecodedDump
 pub mod TextDump

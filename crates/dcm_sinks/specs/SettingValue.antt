@@ -1,5 +1,5 @@
 -- What is in force, atom by atom.
-use Rattle.std.specs.Prelude.{ℕ, nat_lt, Bool, true, false, if◌then◌else◌, List, [], ◌∷◌, ◌++◌, length}
+use Rattle.std.specs.Prelude.{ℕ, nat_lt, Bool, true, false, not, ◌||◌, if◌then◌else◌, List, [], ◌∷◌, ◌++◌, length}
 use Rattle.std.specs.Prelude.{Option, Some, None, option_map}
 use Rattle.dcm_base.specs.declared.tag.Tag.{Tag}
 use Rattle.dcm_base.specs.declared.vr.Vr.{Vr}
@@ -13,20 +13,21 @@ use Rattle.dcm_base.specs.Steps.Atoms.{Atom, opens, value_byte, closes_leaf, ope
 use Rattle.dcm_base.specs.Steps.Atoms.{opens_fragment, ends}
 use Rattle.dcm_head.specs.declared.head.Head.{Head}
 use Rattle.dcm_text.specs.declared.sets.Sets.{Sets}
-use Rattle.dcm_text.specs.Sets.{sets_of}
+use Rattle.dcm_text.specs.Sets.{is_known, sets_of}
 use Rattle.dcm_sinks.specs.InForce.{EMPTY, is_setting}
 use Rattle.dcm_sinks.specs.declared.character_set.Setting.{Setting}
 
 -- what is in force here, what is in force around each open item, the innermost first, and the value on its way of an
--- element that sets what is in force, where there is one
+-- element that sets what is in force, where there is one; whether an earlier one named what is not known
 pub record ForceState : Type 0 where
   pub sets : Sets
   pub around : List Sets
   pub setting : Option (List ℕ)
+  pub unknown : Bool
 
 -- before the outermost data set
 abbrev pub force_start : ForceState
-force_start = record { sets = EMPTY; around = []; setting = None }
+force_start = record { sets = EMPTY; around = []; setting = None; unknown = false }
 
 -- ---- the value of an element that sets what is in force
 
@@ -59,8 +60,9 @@ setting_by false value = None
 abbrev pub setting_of : Setting → Option (List ℕ)
 setting_of setting = setting_by setting.is_open setting.value.items
 
-abbrev pub force_by : Sets → (around : List Sets) → Setting → ForceState
-force_by sets around setting = record { sets = sets; around = around; setting = setting_of setting }
+abbrev pub force_by : Sets → (around : List Sets) → Setting → (unknown : Bool) → ForceState
+force_by sets around setting unknown =
+    record { sets = sets; around = around; setting = setting_of setting; unknown = unknown }
 
 abbrev pub with_setting : ForceState → Option (List ℕ) → ForceState
 with_setting f o = record f { setting = o }
@@ -69,6 +71,11 @@ with_setting f o = record f { setting = o }
 abbrev pub sets_with : Option (List ℕ) → Sets → Sets
 sets_with None sets = sets
 sets_with (Some value) sets = sets_of value
+
+-- whether that value names what is not known
+abbrev pub names_unknown : Option (List ℕ) → Bool
+names_unknown None = false
+names_unknown (Some value) = not (is_known value)
 
 -- ---- items
 
@@ -95,7 +102,11 @@ force_step f (opens tag vr declared s) =
     record f { setting = setting_opened (opens_setting (form s (read_as s tag vr) declared) tag vr) }
 force_step f (value_byte b) =
     with_setting f (option_map (λ (value : List ℕ). with_setting_byte value b) f.setting)
-force_step f closes_leaf = record f { sets = sets_with f.setting f.sets; setting = None }
+force_step f closes_leaf = record f {
+  sets = sets_with f.setting f.sets;
+  setting = None;
+  unknown = names_unknown f.setting || f.unknown;
+}
 force_step f (opens_item declared) = item_entered f
 force_step f closes_item = record f { sets = sets_left f.sets f.around; around = around_left f.around }
 force_step f closes_sequence = f

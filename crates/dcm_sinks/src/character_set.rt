@@ -7,7 +7,7 @@ ghost use Rattle.dcm_text.specs.Sets.{sets_of as sets_named};
 
 use arrayvec::ArrayVec;
 use dcm_base::{Tag, Vr};
-use dcm_text::{Sets, sets_of};
+use dcm_text::{Sets, is_known, sets_of};
 
 /// Specific Character Set.
 const CHARACTER_SET: Tag = Tag {
@@ -116,6 +116,14 @@ impl Setting {
             return None;
         }
         Some(sets_of(self.value.as_slice()))
+    }
+
+    /// Whether the value is on its way, and names what is not known.
+    #[inline(always)]
+    pub fn names_unknown(&self) -> bool
+        ensures { result ≡ spec.names_unknown (setting_of self.now) }
+    {
+        self.is_open && !is_known(self.value.as_slice())
     }
 
     /// After the end of a value.

@@ -7,7 +7,7 @@ ghost use Rattle.dcm_base.specs.declared.syntax.Syntax.{Syntax};
 ghost use Rattle.dcm_stream.specs.Driven.{bars_by};
 ghost use Rattle.dcm_stream.specs.Follows.{BarsAs};
 ghost use Rattle.dcm_sinks.specs.DecodedLaws.{DecodedDumpsShown, DecodedDumpsWhole, DecodedDumpsSoFar};
-ghost use Rattle.dcm_sinks.specs.DecodedLaws.{DecodedOfAscii, DecodedOfLow};
+ghost use Rattle.dcm_sinks.specs.DecodedLaws.{DecodedOfAscii, DecodedOfLow, UnknownShown, UnknownWhole, UnknownSoFar};
 ghost use Rattle.dcm_sinks.specs.EncodeSink.{encode_bar, encode_start, encode_step};
 ghost use Rattle.dcm_sinks.specs.Laws.{DumpsShown, DumpsWhole, DumpsSoFar, EncodesShown, EncodesWhole, EncodesSoFar};
 ghost use Rattle.dcm_sinks.specs.Laws.{ReadsBack, ChangesNothingAgain, NewMetaReads};
@@ -34,6 +34,14 @@ pub fn decoded_dump_steps()
 pub fn decoded_dump_reads()
     ensures whole { DecodedDumpsWhole }
     ensures so_far { DecodedDumpsSoFar }
+{}
+
+/// The sink of texts in UTF-8 knows whether a whole value of Specific Character Set, at any depth, named what is not
+/// known. So it is after such atoms, after all that is read of an input, and after what was read of it so far.
+pub fn unknown_told()
+    ensures shown { UnknownShown }
+    ensures whole { UnknownWhole }
+    ensures so_far { UnknownSoFar }
 {}
 
 /// A data set whose texts are of bytes below 80 is dumped so as without characters, unless an ESC is in one that code

@@ -2,8 +2,9 @@
 //!
 //! - `DumpSink` writes the lines of a dump, `Lines` in it; `dump_header` and `set_header` write what comes before them.
 //! - `DecodedDumpSink` writes the same lines with texts in UTF-8, by what is in force of Specific Character Set, which
-//!   `InForce` keeps; `decoded_dump_header` and `decoded_set_header` write what comes before them. `Setting` is the
+//!   `InForce` keeps; `decoded_dump_header` and `decoded_alone_header` write what comes before them. `Setting` is the
 //!   value of that element on its way, here and for tables.
+//! - `LineSink` is either of them for what stands before it and leaves lines out.
 //! - `EncodeSink` writes the data set in a target syntax, with undefined lengths and without lengths of groups, by an
 //!   `Encoder`, which dcm_build uses too. A value is copied or turned by units as it comes, and never held.
 //! - `laws` has what the sinks make of all tokens of a data set: `dump_steps`, `decoded_dump_steps` and `encode_steps`,
@@ -24,7 +25,7 @@ pub mod laws;
 
 pub use character_set::{Setting, default_sets, is_setting};
 pub use dump::{
-    DecodedDumpSink, DumpSink, decoded_dump_header, decoded_set_header, dump_header,
+    DecodedDumpSink, DumpSink, LineSink, decoded_alone_header, decoded_dump_header, dump_header,
     dump_header_with, set_header,
 };
 pub use encode::{EncodeSink, Encoder, leaf_head};

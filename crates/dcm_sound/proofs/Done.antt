@@ -1,12 +1,10 @@
 -- A file of which dcmdump says that all was done is sound.
-use Rattle.std.proofs.Common.{◌≡◌, ◌≢◌, ◌∙◌, ap, sym, refl, subst, ℕ, ◌+◌, ◌≤◌, List, [], ◌∷◌, ◌++◌, length, drop, Option, None, Some, Bool, true, false, cond, not, Result, Ok, Err, arith}
+use Rattle.std.proofs.Common.{◌≡◌, ◌≢◌, ◌∙◌, ap, sym, refl, subst, ℕ, ◌+◌, ◌≤◌, List, [], ◌∷◌, ◌++◌, length, drop, None, Bool, true, false, cond, not, Result, Ok, Err, arith}
 use Rattle.std.specs.Prelude.{◌==◌, nat_lt}
 use Rattle.std.proofs.lemmas.Bool.{eqb-false, ltb-false}
 use Rattle.dcm_base.specs.declared.dictionary.Dictionary.{Dictionary}
 use Rattle.dcm_base.specs.declared.mode.Mode.{Mode}
-use Rattle.dcm_base.specs.declared.fault.Fault.TheVariants.{BadMeta, EndsEarly, MetaTooLarge}
-use Rattle.dcm_base.specs.declared.length.Length.{Length}
-use Rattle.dcm_base.specs.declared.length.Length.TheVariants.{Known, Undefined}
+use Rattle.dcm_base.specs.declared.fault.Fault.TheVariants.{BadMeta, MetaTooLarge}
 use Rattle.dcm_base.specs.declared.tag.Tag.{Tag}
 use Rattle.dcm_base.specs.declared.vr.Vr.{Vr}
 use Rattle.dcm_base.specs.declared.syntax.Coding.{Coding}
@@ -17,20 +15,23 @@ use Rattle.dcm_base.specs.Tree.Front.{Front}
 use Rattle.dcm_base.specs.Tables.Number.{AreBytes, number}
 use Rattle.dcm_base.specs.Tables.Syntax.{Little, coding_by}
 use Rattle.dcm_base.specs.Tables.Transfer.{coding_of, without_pads}
-use Rattle.dcm_base.specs.Bytes.Head.{head_size, length_at, tag_at, vr_at}
+use Rattle.dcm_base.specs.Bytes.Head.{vr_at}
 use Rattle.dcm_base.specs.Bytes.Spelling.{TreesAt}
-use Rattle.dcm_base.specs.File.MetaGroup.{GroupPlace, META_LIMIT, an_element, the_end, too_few, a_fault, group_place, group_place_of_head, group_place_of_vr, is_sequence}
+use Rattle.dcm_base.specs.File.MetaGroup.{GroupPlace, an_element, the_end, too_few, a_fault, group_place, group_place_of_vr}
 use Rattle.dcm_base.specs.File.MetaReads.{Meta, MetaReads, PREFIX, answer_behind, begins, coded, named, no_prefix, syntax_value, too_short, with_group}
 use Rattle.dcm_base.specs.Reading.Bars.{no_bar}
 use Rattle.dcm_base.specs.Reading.Reads.{INPUT_LIMIT, Reads, at_the_cut}
 use Rattle.dcm_base.specs.Reading.Stop.{Stop, complete, refused}
 use Rattle.dcm_base.specs.Steps.Atoms.{ends}
+use Rattle.dcm_editor_laws.proofs.Readers.WholeReads.{cut_never}
+use Rattle.dcm_head.proofs.MetaGroups.Elements.{vr_not_end}
 use Rattle.dcm_sinks.proofs.ReadBack.RecodeReads.{source_fine, source_whole}
 use Rattle.dcm_sinks.proofs.ReadBack.WrittenRead.{target_heads}
+use Rattle.dcm_value.proofs.ReadBack.Units.{bytes_drop}
 use Rattle.dcm_words.specs.Words.{dump}
 use Rattle.dcm_cli.specs.Answer.{Answer, Answers, FileReads, Source, answer, not_changed, not_opened, opened, set_at, stop_status}
 use Rattle.dcm_cli.specs.Status.{DONE, FAULT}
-use Rattle.dcm_run_laws.proofs.ReadBack.ReadsAgain.{all_size, behind_group, four_parts, rest_bytes}
+use Rattle.dcm_run_laws.proofs.ReadBack.ReadsAgain.{all_size, behind_group, four_parts}
 use Rattle.dcm_sound.specs.Sound.{IsSound}
 use Rattle.dcm_sound.proofs.DoneSets.{are_data}
 
@@ -67,18 +68,9 @@ by_tests false true c tag vr head size e = cc
 by_tests false false true tag vr head size e = cc
 by_tests false false false tag vr head size e = cc
 
-head_goes_on : (taken left : ℕ) (tag : Tag) (vr : Vr) (declared : Length) → group_place_of_head taken left tag vr declared ≡ the_end → ⊥
-head_goes_on taken left tag vr Undefined e = cc
-head_goes_on taken left tag vr (Known size) e = by_tests (is_sequence vr) (nat_lt META_LIMIT (taken + (head_size Little vr + size))) (nat_lt left (head_size Little vr + size)) tag vr (head_size Little vr) size e
-
 either_goes_on : (t : Bool) (place : GroupPlace) → (place ≡ the_end → ⊥) → cond t too_few place ≡ the_end → ⊥
 either_goes_on true place f e = cc
 either_goes_on false place f e = f e
-
-vr_goes_on : (taken : ℕ) (rest : List ℕ) (vr : Option Vr) → group_place_of_vr taken rest vr ≡ the_end → ⊥
-vr_goes_on taken rest None e = cc
-vr_goes_on taken rest (Some vr) e =
-    either_goes_on (nat_lt (length rest) (head_size Little vr)) (group_place_of_head taken (length rest) (tag_at Little rest) vr (length_at Little vr rest)) (head_goes_on taken (length rest) (tag_at Little rest) vr (length_at Little vr rest)) e
 
 by_test : (t : Bool) (other : GroupPlace) → (other ≡ the_end → ⊥) → cond (not t) the_end other ≡ the_end → t ≡ false
 by_test true other not_end e = absurd (not_end e)
@@ -92,17 +84,12 @@ no_group taken (b ∷ c ∷ rest) e two =
     let all : List ℕ = b ∷ c ∷ rest in
     eqb-false (number Little 2 all) 2
     (by_test (number Little 2 all == 2) (cond (nat_lt (length all) 8) too_few (group_place_of_vr taken all (vr_at Little all)))
-    (either_goes_on (nat_lt (length all) 8) (group_place_of_vr taken all (vr_at Little all)) (vr_goes_on taken all (vr_at Little all))) e) two
+    (either_goes_on (nat_lt (length all) 8) (group_place_of_vr taken all (vr_at Little all)) (vr_not_end taken all (vr_at Little all))) e) two
 
 -- ---- the limit
 
-never_cut : (why : Stop) → at_the_cut why ≡ complete → ⊥
-never_cut complete e = cc
-never_cut (refused EndsEarly offset) e = cc
-never_cut (refused fault offset) e = cc
-
 by_limit : (t : Bool) (why : Stop) → complete ≡ cond t (at_the_cut why) why → t ≡ false
-by_limit true why e = absurd (never_cut why (sym e))
+by_limit true why e = absurd (cut_never why (sym e))
 by_limit false why e = refl
 
 reads_within : (s : Syntax) (start : ℕ) (bytes : List ℕ) (f : Front) → Reads no_bar s start bytes f complete → start + length bytes ≤ INPUT_LIMIT
@@ -122,7 +109,7 @@ sound_by d bytes m group named coding f are (with_group preamble more there elem
     let set_is : rest ≡ g.rest = ap (λ (x : List ℕ). drop (set_at x) bytes) k.1.groups ∙ ap (drop (set_at there)) whole ∙ behind_group preamble PREFIX there g.rest long refl in
     let within = reads_within s (set_at group) rest f reads in
     let le : set_at group ≤ INPUT_LIMIT = omega (arith, within) in
-    let bytes_of_rest = rest_bytes (set_at group) bytes are in
+    let bytes_of_rest = bytes_drop (set_at group) bytes are in
     let w = source_whole Little s (set_at group) rest f le bytes_of_rest reads in
     let size = all_size preamble PREFIX there g.rest long refl in
     let all = ap length whole in

@@ -2,6 +2,7 @@
 use Rattle.std.proofs.Common.{◌≡◌, ◌∙◌, ap, refl, ℕ, suc, List, [], ◌∷◌, ◌++◌, drop, Option, None, Bool, true, false, not, arith}
 use Rattle.std.specs.Prelude.{◌||◌, if◌then◌else◌}
 use Rattle.std.proofs.lemmas.List.{append-nil}
+use Rattle.dcm_lemmas.proofs.Truth.{or_false}
 use Rattle.dcm_base.specs.declared.dictionary.Dictionary.{Dictionary}
 use Rattle.dcm_base.specs.declared.syntax.Coding.{Coding}
 use Rattle.dcm_base.specs.declared.syntax.Syntax.{Syntax}
@@ -70,12 +71,8 @@ place_in_whole no_element reached set = refl
 place_in_whole (new_leaf tag vr value) reached set = refl
 place_in_whole (new_sequence tag held) reached set = none_there (has tag set) (is_passed tag reached true) (passed_closed tag reached)
 
-or_no : (b : Bool) → (b || false) ≡ b
-or_no true = refl
-or_no false = refl
-
 found_whole : (e : Edit) (reached : Option Tag) (set : Trees) → found e (ended reached set) ≡ (has_place_in (element_of e) set || found_in e set)
-found_whole e reached set = or_no (has_place_so_far (element_of e) (ended reached set) || found_in e set) ∙ ap (λ (x : Bool). x || found_in e set) (place_in_whole (element_of e) reached set)
+found_whole e reached set = or_false (has_place_so_far (element_of e) (ended reached set) || found_in e set) ∙ ap (λ (x : Bool). x || found_in e set) (place_in_whole (element_of e) reached set)
 
 unplaced_whole : (n : ℕ) (edits : List Edit) (reached : Option Tag) (set : Trees) → unplaced_lines n edits (ended reached set) ≡ unplaced n edits set
 unplaced_whole n [] reached set = refl

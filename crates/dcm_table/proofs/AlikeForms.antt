@@ -1,12 +1,15 @@
 -- Texts that are written alike in each form.
 use Rattle.std.proofs.Common.{◌≡◌, ◌∙◌, sym, ap, refl, ℕ, ◌<◌, List, [], ◌∷◌, length, Bool, true, false, arith, Option, Some, None}
-use Rattle.std.specs.Prelude.{nat_lt, ◌==◌, ◌&&◌, not, if◌then◌else◌, encode_utf8_all, IsUtf8, IsAscii}
+use Rattle.std.specs.Prelude.{nat_lt, ◌==◌, not, encode_utf8_all, IsUtf8, IsAscii}
 use Rattle.std.specs.List.{list_all}
 use Rattle.std.specs.Str.{all_scalars}
 use Rattle.std.specs.Str.Lossy.{utf8_valid_len}
 use Rattle.std.proofs.lemmas.Bool.Decides.{nat_tests}
 use Rattle.std.proofs.lemmas.Str.{IsUtf8-from_ascii, utf8_valid_len-IsUtf8}
 use Rattle.std.proofs.lemmas.Str.Ascii.{IsAscii-nil, IsAscii-cons}
+use Rattle.dcm_lemmas.proofs.Numbers.{equal_is_true}
+use Rattle.dcm_lemmas.proofs.Choice.{if_true}
+use Rattle.dcm_lemmas.proofs.Truth.{and_first, and_second}
 use Rattle.dcm_base.specs.declared.vr.Vr.{Vr}
 use Rattle.dcm_base.specs.Tables.Transfer.{without_pads}
 use Rattle.dcm_text.specs.declared.set.TextKind.{TextKind}
@@ -24,17 +27,11 @@ use Rattle.dcm_table.specs.Row.{cell_parts, decoded_kind, is_quoted_text, text_b
 
 -- ---- valid UTF-8 has no byte that is escaped
 
-same_length : (n m : ℕ) → n ≡ m → (n == m) ≡ true
-same_length n m e = grind (arith, nat_tests)
-
-if_whole : (t : Bool) (x y : List ℕ) → t ≡ true → (if t then x else y) ≡ x
-if_whole t x y e = rw e refl
-
 pub valid_stays : (text : List ℕ) → IsUtf8 text → valid_utf8 text ≡ text
 unfolding valid_utf8
 valid_stays [] h = refl
 valid_stays (b ∷ text) h =
-    if_whole (utf8_valid_len (b ∷ text) == length (b ∷ text)) (b ∷ text) _ (same_length (utf8_valid_len (b ∷ text)) (length (b ∷ text)) (utf8_valid_len-IsUtf8 (b ∷ text) h))
+    if_true (utf8_valid_len (b ∷ text) == length (b ∷ text)) (b ∷ text) _ (equal_is_true (utf8_valid_len (b ∷ text)) (length (b ∷ text)) (utf8_valid_len-IsUtf8 (b ∷ text) h))
 
 -- ---- texts
 
@@ -56,22 +53,14 @@ by_quotes false form other sets vr value h same = refl
 
 -- ---- ASCII
 
-low_of : (a b : Bool) → (a && b) ≡ true → a ≡ true
-low_of true b e = refl
-low_of false b e = cc
-
-rest_of : (a b : Bool) → (a && b) ≡ true → b ≡ true
-rest_of true b e = e
-rest_of false b e = cc
-
 below : (n m : ℕ) → nat_lt n m ≡ true → n < m
 below n m e = grind (arith, nat_tests)
 
 plain_ascii : (sets : Sets) (text : List ℕ) → list_all (is_plain sets) text ≡ true → IsAscii text
 plain_ascii sets [] e = IsAscii-nil
 plain_ascii sets (b ∷ text) e =
-    IsAscii-cons b text (below b 0x80 (low_of (nat_lt b 0x80) (not (is_escape sets b)) (low_of (is_plain sets b) (list_all (is_plain sets) text) e)))
-    (plain_ascii sets text (rest_of (is_plain sets b) (list_all (is_plain sets) text) e))
+    IsAscii-cons b text (below b 0x80 (and_first (nat_lt b 0x80) (not (is_escape sets b)) (and_first (is_plain sets b) (list_all (is_plain sets) text) e)))
+    (plain_ascii sets text (and_second (is_plain sets b) (list_all (is_plain sets) text) e))
 
 pub ascii_alike : (form other : TextForm) (sets : Sets) (shown : Vr) (value : List ℕ) → list_all (is_plain sets) (without_pads value) ≡ true → cell_parts form sets (whole shown value) ≡ cell_parts other sets (whole shown value)
 ascii_alike form other sets shown value e =

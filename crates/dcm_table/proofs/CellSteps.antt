@@ -1,16 +1,14 @@
 -- The cell of a column after bytes of a value.
-use Rattle.std.proofs.Common.{◌≡◌, ◌∙◌, sym, ap, refl, ℕ, ◌+◌, ◌<◌, ◌≤◌, List, [], ◌∷◌, ◌++◌, length, fold, arith, append_assoc, Bool, true, false}
-use Rattle.std.specs.Prelude.{nat_lt, if◌then◌else◌}
+use Rattle.std.proofs.Common.{◌≡◌, ◌∙◌, sym, ap, refl, ℕ, ◌+◌, ◌<◌, ◌≤◌, List, [], ◌∷◌, ◌++◌, length, fold, arith, append_assoc, true, false}
+use Rattle.std.specs.Prelude.{nat_lt}
 use Rattle.std.proofs.lemmas.Bool.{lt-ltb, cases_lt}
 use mathlib.Core.Logic.{⊎_elim}
-use Rattle.std.proofs.lemmas.Bool.Decides.{nat_tests}
 use Rattle.std.proofs.lemmas.List.{append-nil, length-append}
+use Rattle.dcm_lemmas.proofs.Numbers.{not_below}
+use Rattle.dcm_lemmas.proofs.Choice.{if_false, if_true}
 use Rattle.dcm_base.specs.declared.vr.Vr.{Vr}
 use Rattle.dcm_base.specs.declared.syntax.Syntax.{Syntax}
-use Rattle.dcm_base.specs.declared.syntax.Syntax.TheVariants.{Implicit as implicit_in, Little as little_in, Big as big_in}
-use Rattle.dcm_base.specs.Tables.Representation.{unit}
-use Rattle.dcm_base.specs.Tables.Syntax.{is_big}
-use Rattle.dcm_base.specs.Tree.Value.{order, turned}
+use Rattle.dcm_base.specs.Tree.Value.{order}
 use Rattle.dcm_table.specs.declared.cell.Progress.{Progress}
 use Rattle.dcm_table.specs.declared.cell.Progress.TheVariants.{Missing, Open, OpenTooLong, Whole, TooLong, NotShown}
 use Rattle.dcm_table.specs.Cell.{Cell, missing, open_value, open_too_long, whole, too_long, not_shown, with_byte}
@@ -45,20 +43,11 @@ closed_stays (Whole shown) value v e = whole_stays shown value v
 closed_stays TooLong value v e = long_stays v
 closed_stays NotShown value v e = not_shown_stays v
 
-one_more : (t : Bool) (x y : Cell) → t ≡ true → (if t then x else y) ≡ x
-one_more t x y e = rw e refl
-
-one_too_many : (t : Bool) (x y : Cell) → t ≡ false → (if t then x else y) ≡ y
-one_too_many t x y e = rw e refl
-
-no_room : (n m : ℕ) → m ≤ n → nat_lt n m ≡ false
-no_room n m h = grind (arith, nat_tests)
-
 module _ (vr shown : Vr) (s : Syntax) where
   pub fits : (held v : List ℕ) → length held + length v ≤ 16384 → fold with_byte (open_value vr shown s held) v ≡ open_value vr shown s (held ++ v)
   fits held [] h = ap (open_value vr shown s) (sym (append-nil held))
   fits held (b ∷ v) h =
-      ap (λ (c : Cell). fold with_byte c v) (one_more (nat_lt (length held) 16384) (open_value vr shown s (held ++ b ∷ [])) open_too_long (lt-ltb (length held) 16384 (omega (arith, h))))
+      ap (λ (c : Cell). fold with_byte c v) (if_true (nat_lt (length held) 16384) (open_value vr shown s (held ++ b ∷ [])) open_too_long (lt-ltb (length held) 16384 (omega (arith, h))))
       ∙ fits (held ++ b ∷ []) v (omega (arith, h, length-append held (b ∷ [])))
       ∙ ap (open_value vr shown s) (append_assoc held (b ∷ []) v)
 
@@ -67,10 +56,10 @@ module _ (vr shown : Vr) (s : Syntax) where
   passes held (b ∷ v) h k =
       ⊎_elim
       (λ (some : length held < 16384).
-      ap (λ (c : Cell). fold with_byte c v) (one_more (nat_lt (length held) 16384) (open_value vr shown s (held ++ b ∷ [])) open_too_long (lt-ltb (length held) 16384 some))
+      ap (λ (c : Cell). fold with_byte c v) (if_true (nat_lt (length held) 16384) (open_value vr shown s (held ++ b ∷ [])) open_too_long (lt-ltb (length held) 16384 some))
       ∙ passes (held ++ b ∷ []) v (omega (arith, some, length-append held (b ∷ []))) (omega (arith, k, length-append held (b ∷ []))))
       (λ (full : 16384 ≤ length held).
-      ap (λ (c : Cell). fold with_byte c v) (one_too_many (nat_lt (length held) 16384) (open_value vr shown s (held ++ b ∷ [])) open_too_long (no_room (length held) 16384 full))
+      ap (λ (c : Cell). fold with_byte c v) (if_false (nat_lt (length held) 16384) (open_value vr shown s (held ++ b ∷ [])) open_too_long (not_below (length held) 16384 full))
       ∙ too_long_stays v)
       (cases_lt (length held) 16384)
 
@@ -93,13 +82,3 @@ open_passes TooLong held v e h k = cc
 open_passes NotShown held v e h k = cc
 
 -- ---- the order of a value
-
-pub order_big : (s : Syntax) (vr : Vr) (v : List ℕ) → is_big s ≡ true → order s vr v ≡ turned (unit vr) v
-order_big (implicit_in d) vr v e = cc
-order_big (little_in d) vr v e = cc
-order_big (big_in d) vr v e = refl
-
-pub order_same : (s : Syntax) (vr : Vr) (v : List ℕ) → is_big s ≡ false → order s vr v ≡ v
-order_same (implicit_in d) vr v e = refl
-order_same (little_in d) vr v e = refl
-order_same (big_in d) vr v e = cc

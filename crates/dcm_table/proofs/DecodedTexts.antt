@@ -3,6 +3,7 @@ use Rattle.std.proofs.Common.{arith, Bool, false, nat_lt, refl, ◌∷◌}
 use Rattle.std.specs.Prelude.{◌&&◌, ◌==◌, not, nat_le}
 use Rattle.std.specs.List.{list_all}
 use Rattle.std.proofs.lemmas.Bool.Decides.{nat_tests}
+use Rattle.dcm_lemmas.proofs.Truth.{and_both, and_first, and_second}
 use Rattle.dcm_text.specs.Laws.{is_plain}
 use Rattle.dcm_text.proofs.Displays.{ascii_cell}
 use Rattle.std.proofs.Common.{◌≡◌, ◌∙◌, sym, ap, ℕ, true, List, [], ◌++◌, Option, append-nil}
@@ -16,7 +17,7 @@ use Rattle.dcm_text.specs.Runs.{State, Run, begun, onto, run}
 use Rattle.dcm_text.specs.Shown.{cell, cell_piece}
 use Rattle.dcm_text.proofs.Runs.{whole_run}
 use Rattle.dcm_table.specs.Quoted.{doubled, doubled_byte}
-use Rattle.dcm_table.proofs.Texts.{TextSoFar}
+use Rattle.dcm_sinks.proofs.DecodedDumps.Characters.{TextSoFar}
 
 -- what a run shows, with quotes doubled
 abbrev pub shown : Run → List ℕ
@@ -43,17 +44,6 @@ all_written old now all rest s e =
 abbrev pub printable : ℕ → Bool
 printable b = nat_le 0x20 b && nat_le b 0x7E
 
-one_of : (a b : Bool) → (a && b) ≡ true → a ≡ true
-one_of true b e = refl
-one_of false b e = cc
-
-other_of : (a b : Bool) → (a && b) ≡ true → b ≡ true
-other_of true b e = e
-other_of false b e = cc
-
-both_of : (a b : Bool) → a ≡ true → b ≡ true → (a && b) ≡ true
-both_of a b e h = rw (e, h) refl
-
 low : (b : ℕ) → printable b ≡ true → nat_lt b 0x80 ≡ true
 low b e = grind (arith, nat_tests)
 
@@ -61,7 +51,7 @@ no_escape : (b : ℕ) → printable b ≡ true → (b == 0x1B) ≡ false
 no_escape b e = grind (arith, nat_tests)
 
 plain_byte : (sets : Sets) (b : ℕ) → printable b ≡ true → is_plain sets b ≡ true
-plain_byte sets b e = both_of (nat_lt b 0x80) _ (low b e) (by_escape (b == 0x1B) sets.extended (no_escape b e))
+plain_byte sets b e = and_both (nat_lt b 0x80) _ (low b e) (by_escape (b == 0x1B) sets.extended (no_escape b e))
   where
     by_escape : (t x : Bool) → t ≡ false → not (t && x) ≡ true
     by_escape true x h = cc
@@ -70,8 +60,8 @@ plain_byte sets b e = both_of (nat_lt b 0x80) _ (low b e) (by_escape (b == 0x1B)
 all_plain : (sets : Sets) (text : List ℕ) → list_all printable text ≡ true → list_all (is_plain sets) text ≡ true
 all_plain sets [] e = refl
 all_plain sets (b ∷ text) e =
-    both_of (is_plain sets b) (list_all (is_plain sets) text) (plain_byte sets b (one_of (printable b) (list_all printable text) e))
-    (all_plain sets text (other_of (printable b) (list_all printable text) e))
+    and_both (is_plain sets b) (list_all (is_plain sets) text) (plain_byte sets b (and_first (printable b) (list_all printable text) e))
+    (all_plain sets text (and_second (printable b) (list_all printable text) e))
 
 pub printable_cell : (sets : Sets) (kind : TextKind) (text : List ℕ) → list_all printable text ≡ true → text ≡ cell sets kind text
 printable_cell sets kind text e = sym (ascii_cell sets kind text (all_plain sets text e))

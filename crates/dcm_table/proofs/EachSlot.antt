@@ -3,6 +3,7 @@ use Rattle.std.proofs.Common.{◌≡◌, ◌∙◌, sym, ap, refl, ℕ, zero, su
 use Rattle.std.specs.Prelude.{Bool, true, false, ◌||◌, ◌&&◌, not, slice_index_or, if◌then◌else◌, Option, Some, None, option_map}
 use Rattle.std.specs.List.{list_any}
 use Rattle.std.proofs.lemmas.List.{map-append, take_more_set, drop-set-lt, drop_more, take_all, take_more}
+use Rattle.dcm_lemmas.proofs.Lists.{heads_alike, tails_alike}
 use Rattle.dcm_base.specs.declared.tag.Tag.{Tag}
 use Rattle.dcm_base.specs.Tables.Tag.{same_tag}
 use Rattle.dcm_base.specs.Steps.Atoms.{Atom, opens, value_byte, closes_leaf, opens_item, closes_item, closes_sequence, opens_fragment, ends}
@@ -23,17 +24,11 @@ pub record SlotsSoFar (f : Slot → Slot) (now first : List HeldSlot) (i : ℕ) 
   pub before : slots_of (take i now) ≡ map f (slots_of (take i first))
   pub after : drop i now ≡ drop i first
 
-head_same : {X : Type 0} (x y : X) (xs ys : List X) → x ∷ xs ≡ y ∷ ys → x ≡ y
-head_same x y xs ys e = cc
-
-tail_same : {X : Type 0} (x y : X) (xs ys : List X) → x ∷ xs ≡ y ∷ ys → xs ≡ ys
-tail_same x y xs ys e = cc
-
 pub slots_more : (f : Slot → Slot) (now first : List HeldSlot) (i : ℕ) (item new : HeldSlot) → i < length now → i < length first → slot_of new ≡ f (slot_of (get_or now i item))
     → SlotsSoFar f now first i → SlotsSoFar f (set now i new) first (i + 1)
 slots_more f now first i item new h k changed s =
     let both : get_or now i item ∷ drop (i + 1) now ≡ get_or first i item ∷ drop (i + 1) first = sym (drop_more now i item h) ∙ s.after ∙ drop_more first i item k in
-    let same : get_or now i item ≡ get_or first i item = head_same _ _ _ _ both in
+    let same : get_or now i item ≡ get_or first i item = heads_alike _ _ _ _ both in
     let later : i < i + 1 = omega arith in
     record {
       before =
@@ -44,7 +39,7 @@ slots_more f now first i item new h k changed s =
           ∙ sym (map-append f (slots_of (take i first)) (slot_of (get_or first i item) ∷ []))
           ∙ ap (map f) (sym (map-append slot_of (take i first) (get_or first i item ∷ [])))
           ∙ ap (λ (x : List HeldSlot). map f (slots_of x)) (sym (take_more first i item k));
-      after = drop-set-lt (i + 1) now i new later ∙ tail_same _ _ _ _ both;
+      after = drop-set-lt (i + 1) now i new later ∙ tails_alike _ _ _ _ both;
     }
 
 pub slots_none : (f : Slot → Slot) (first : List HeldSlot) → SlotsSoFar f first first 0

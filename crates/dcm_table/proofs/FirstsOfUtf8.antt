@@ -8,6 +8,9 @@ use Rattle.std.proofs.lemmas.Bool.Decides.{nat_tests}
 use Rattle.std.proofs.lemmas.Str.{encode_ascii}
 use lib.Dec.{ltb}
 use lib.Utf8.{scalar, low_scalar}
+use Rattle.dcm_lemmas.proofs.Truth.{and_second_false}
+use Rattle.dcm_text.proofs.Directly.{at_least, at_most}
+use Rattle.dcm_text.proofs.Whole.{same_behind}
 use Rattle.dcm_text.specs.declared.set.Halves.{Halves}
 use Rattle.dcm_text.specs.declared.set.Right.{Right}
 use Rattle.dcm_text.specs.declared.set.Right.TheVariants as right
@@ -23,12 +26,12 @@ use Rattle.dcm_text.specs.declared.first.Meaning.{Meaning}
 use Rattle.dcm_text.specs.declared.first.Meaning.TheVariants as meaning
 use Rattle.dcm_text.specs.Characters.{is_between}
 use Rattle.dcm_text.specs.Forms.{fit_of, utf8_ranges, right_opening}
-use Rattle.dcm_text.specs.First.{first_of, start_of, opening_of, opened, by_fit, formed, one_unknown, resets, behind, designated, designations}
+use Rattle.dcm_text.specs.First.{first_of, start_of, opening_of, opened, by_fit, formed, one_unknown, designated, designations}
 use Rattle.dcm_text.specs.Decoding.{Piece, or_unknown, decoded_from, found}
 use Rattle.dcm_text.specs.Laws.{IsUtf8InForce, encoded}
 use Rattle.dcm_text.proofs.Pieces.{one_piece}
 use Rattle.dcm_text.proofs.Utf8.{chars_ahead}
-use Rattle.dcm_table.proofs.FormsOfUtf8.{Begins, least_of, most_of, fits_begin}
+use Rattle.dcm_table.proofs.FormsOfUtf8.{Begins, fits_begin}
 
 -- a term of the type given
 abbrev by : (A : Type 0) → A → A
@@ -38,23 +41,12 @@ by A a = a
 abbrev pub IsBad : Sets → TextKind → List ℕ → Type 0
 IsBad sets kind text = found true sets kind (start_of sets) text ≡ Some (one_unknown (start_of sets))
 
-and_false : (t x : Bool) → x ≡ false → t && x ≡ false
-and_false true x e = e
-and_false false x e = refl
-
-same_behind : (sets : Sets) (kind : TextKind) (b : ℕ) → behind sets kind (start_of sets) b ≡ start_of sets
-same_behind sets kind b = of_test (resets kind b)
-  where
-    of_test : (t : Bool) → cond t (start_of sets) (start_of sets) ≡ start_of sets
-    of_test true = refl
-    of_test false = refl
-
 high_first : (sets : Sets) (kind : TextKind) (b : ℕ) (rest : List ℕ) → IsUtf8InForce sets → 0x80 ≤ b
     → first_of sets kind (start_of sets) (b ∷ rest) ≡ opened (right_opening right.Utf8 b) sets kind (start_of sets) (b ∷ rest)
 unfolding first_of
 high_first sets kind b rest u l =
     ap (λ (t : Bool). cond t (designated sets designations (start_of sets) rest) (opened (opening_of (start_of sets) b) sets kind (start_of sets) (b ∷ rest)))
-    (and_false (b == 0x1B) sets.extended u.alone)
+    (and_second_false (b == 0x1B) sets.extended u.alone)
     ∙ ap (λ (o : Opening). opened o sets kind (start_of sets) (b ∷ rest))
     (cond-false _ _ _ (by (nat_lt b 0x80 ≡ false) (grind (arith, nat_tests))) ∙ ap (λ (r : Right). right_opening r b) u.start)
 
@@ -74,7 +66,7 @@ by_first sets kind b rest u = by_high (cases_lt b 128)
 
     by_lead : (t : Bool) → 128 ≤ b → is_between 0xC2 0xF4 b ≡ t → Begins (b ∷ rest) ⊎ IsBad sets kind (b ∷ rest)
     by_lead true l e =
-        by_fit_of (fit_of (utf8_ranges b) rest) (least_of 0xC2 0xF4 b e) (most_of 0xC2 0xF4 b e) refl
+        by_fit_of (fit_of (utf8_ranges b) rest) (at_least 0xC2 0xF4 b e) (at_most 0xC2 0xF4 b e) refl
         (high_first sets kind b rest u l
         ∙ ap (λ (t : Bool). opened (cond t (opening.Form form.Utf8) (opening.Byte None)) sets kind (start_of sets) (b ∷ rest)) e)
     by_lead false l e =

@@ -7,6 +7,9 @@ use Rattle.std.proofs.lemmas.Bool.{cases_lt, cond-true, cond-false}
 use Rattle.std.proofs.lemmas.Bool.Decides.{nat_tests}
 use lib.Dec.{ltb, leb}
 use lib.Utf8.{scalar, low_scalar}
+use Rattle.dcm_lemmas.proofs.Numbers.{equal_is_true}
+use Rattle.dcm_lemmas.proofs.Truth.{true_false}
+use Rattle.dcm_text.proofs.Directly.{at_least as least_of, at_most as most_of}
 use Rattle.dcm_text.specs.declared.form.Fit.{Fit}
 use Rattle.dcm_text.specs.declared.form.Fit.TheVariants.{Whole, Part, Not}
 use Rattle.dcm_text.specs.Characters.{is_between}
@@ -164,22 +167,9 @@ fits_next r rs (b ∷ bytes) e = of_test (is_between r.0 r.1 b) refl e
     of_test true h e = record { first = b; after = bytes; whole = refl; within = h; others = e }
     of_test false h e = absurd (no_fit e)
 
-pub least_of : (least most n : ℕ) → is_between least most n ≡ true → least ≤ n
-least_of least most n e = grind (arith, nat_tests)
-
-pub most_of : (least most n : ℕ) → is_between least most n ≡ true → n ≤ most
-most_of least most n e = grind (arith, nat_tests)
-
 -- what the second byte of three is, or of four, behind a first one
 abbrev Second : (least most b low high d : ℕ) → Type 0
 Second least most b low high d = (0x80 ≤ d) × (d ≤ 0xBF) × (b ≡ low → least ≤ d) × (b ≡ high → d ≤ most)
-
-same_test : (b n : ℕ) → b ≡ n → (b == n) ≡ true
-same_test b n e = grind (arith, nat_tests)
-
-not_same : (t : Bool) → t ≡ true → t ≡ false → ⊥
-not_same true e h = cc
-not_same false e h = cc
 
 second_of_three : (b d : ℕ) → is_between (second_three b).0 (second_three b).1 d ≡ true → Second 0xA0 0x9F b 0xE0 0xED d
 second_of_three b d e = of_tests (b == 0xE0) (b == 0xED) refl refl e
@@ -192,9 +182,9 @@ second_of_three b d e = of_tests (b == 0xE0) (b == 0xED) refl refl e
         (omega arith, most_of 0xA0 0xBF d e, λ h. l, λ h. absurd (omega arith))
     of_tests false true p q e =
         let m : d ≤ 0x9F = most_of 0x80 0x9F d e in
-        (least_of 0x80 0x9F d e, omega arith, λ h. absurd (not_same (b == 0xE0) (same_test b 0xE0 h) p), λ h. m)
+        (least_of 0x80 0x9F d e, omega arith, λ h. absurd (true_false (b == 0xE0) (equal_is_true b 0xE0 h) p), λ h. m)
     of_tests false false p q e =
-        (least_of 0x80 0xBF d e, most_of 0x80 0xBF d e, λ h. absurd (not_same (b == 0xE0) (same_test b 0xE0 h) p), λ h. absurd (not_same (b == 0xED) (same_test b 0xED h) q))
+        (least_of 0x80 0xBF d e, most_of 0x80 0xBF d e, λ h. absurd (true_false (b == 0xE0) (equal_is_true b 0xE0 h) p), λ h. absurd (true_false (b == 0xED) (equal_is_true b 0xED h) q))
 
 second_of_four : (b d : ℕ) → is_between (second_four b).0 (second_four b).1 d ≡ true → Second 0x90 0x8F b 0xF0 0xF4 d
 second_of_four b d e = of_tests (b == 0xF0) (b == 0xF4) refl refl e
@@ -207,9 +197,9 @@ second_of_four b d e = of_tests (b == 0xF0) (b == 0xF4) refl refl e
         (omega arith, most_of 0x90 0xBF d e, λ h. l, λ h. absurd (omega arith))
     of_tests false true p q e =
         let m : d ≤ 0x8F = most_of 0x80 0x8F d e in
-        (least_of 0x80 0x8F d e, omega arith, λ h. absurd (not_same (b == 0xF0) (same_test b 0xF0 h) p), λ h. m)
+        (least_of 0x80 0x8F d e, omega arith, λ h. absurd (true_false (b == 0xF0) (equal_is_true b 0xF0 h) p), λ h. m)
     of_tests false false p q e =
-        (least_of 0x80 0xBF d e, most_of 0x80 0xBF d e, λ h. absurd (not_same (b == 0xF0) (same_test b 0xF0 h) p), λ h. absurd (not_same (b == 0xF4) (same_test b 0xF4 h) q))
+        (least_of 0x80 0xBF d e, most_of 0x80 0xBF d e, λ h. absurd (true_false (b == 0xF0) (equal_is_true b 0xF0 h) p), λ h. absurd (true_false (b == 0xF4) (equal_is_true b 0xF4 h) q))
 
 ranges_four : (b : ℕ) → 0xF0 ≤ b → utf8_ranges b ≡ second_four b ∷ NEXT ∷ NEXT ∷ []
 ranges_four b l =

@@ -1,8 +1,11 @@
 -- Cells of which a run is changed, where the others would stay.
 use Rattle.std.proofs.Common.{◌≡◌, ◌∙◌, sym, ap, refl, ℕ, zero, suc, ◌+◌, ◌-◌, ◌<◌, ◌≤◌, List, [], ◌∷◌, ◌++◌, length, take, drop, map, fold, get_or, eqb-true, arith, Bool, true, false}
-use Rattle.std.specs.Prelude.{◌==◌, ◌&&◌, ◌||◌, not, min, if◌then◌else◌}
+use Rattle.std.specs.Prelude.{◌==◌, ◌||◌, not, min, if◌then◌else◌}
 use Rattle.std.proofs.lemmas.Bool.Decides.{nat_tests}
 use mathlib.Core.Bool.{true≢false}
+use Rattle.dcm_base.proofs.Dictionaries.TagOrder.{tag_is}
+use Rattle.dcm_lemmas.proofs.Numbers.{equals_itself}
+use Rattle.dcm_lemmas.proofs.Truth.{and_both, and_first, and_second}
 use Rattle.dcm_base.specs.declared.tag.Tag.{Tag}
 use Rattle.dcm_base.specs.Tables.Tag.{same_tag, tag_number}
 use Rattle.dcm_base.proofs.Spreads.{spread_within}
@@ -22,17 +25,6 @@ use Rattle.dcm_table.proofs.EachSlot.{slots_front, slots_length, bytes_in_slot}
 use Rattle.dcm_table.specs.Index.{NONE, is_in, span_of, place_of, both, added, has_each, is_busy, holds_busy, changed_in}
 
 -- ---- tests
-
-first_holds : (a b : Bool) → (a && b) ≡ true → a ≡ true
-first_holds true b e = refl
-first_holds false b e = cc
-
-rest_holds : (a b : Bool) → (a && b) ≡ true → b ≡ true
-rest_holds true b e = e
-rest_holds false b e = cc
-
-both_hold : (a b : Bool) → a ≡ true → b ≡ true → (a && b) ≡ true
-both_hold a b e h = rw (e, h) refl
 
 -- ---- where a run begins and ends
 
@@ -93,8 +85,8 @@ not_busy false false e h = refl
 pub busy_alone : (f : Slot → Slot) → ((c : Slot) → is_busy c.1 ≡ false → f c ≡ c) → (a : Span) (i : ℕ) (slots : List Slot) → holds_busy a i slots ≡ true → changed_in f a i slots ≡ map f slots
 busy_alone f stays a i [] h = refl
 busy_alone f stays a i (c ∷ slots) h =
-    ap (λ (x : Slot). x ∷ changed_in f a (suc i) slots) (by_place f c (is_in a i) (λ out. stays c (not_busy (is_in a i) (is_busy c.1) (first_holds _ _ h) out)))
-    ∙ ap (λ (x : List Slot). f c ∷ x) (busy_alone f stays a (suc i) slots (rest_holds _ _ h))
+    ap (λ (x : Slot). x ∷ changed_in f a (suc i) slots) (by_place f c (is_in a i) (λ out. stays c (not_busy (is_in a i) (is_busy c.1) (and_first _ _ h) out)))
+    ∙ ap (λ (x : List Slot). f c ∷ x) (busy_alone f stays a (suc i) slots (and_second _ _ h))
 
 still_in : (f : Slot → Slot) (c : Slot) (t : Bool) → (t || not (is_busy c.1)) ≡ true → (t || not (is_busy (if t then f c else c).1)) ≡ true
 still_in f c true h = refl
@@ -102,7 +94,7 @@ still_in f c false h = h
 
 pub busy_kept : (f : Slot → Slot) (a : Span) (i : ℕ) (slots : List Slot) → holds_busy a i slots ≡ true → holds_busy a i (changed_in f a i slots) ≡ true
 busy_kept f a i [] h = refl
-busy_kept f a i (c ∷ slots) h = both_hold _ _ (still_in f c (is_in a i) (first_holds _ _ h)) (busy_kept f a (suc i) slots (rest_holds _ _ h))
+busy_kept f a i (c ∷ slots) h = and_both _ _ (still_in f c (is_in a i) (and_first _ _ h)) (busy_kept f a (suc i) slots (and_second _ _ h))
 
 wider : (t u b : Bool) → (t ≡ true → u ≡ true) → (t || not b) ≡ true → (u || not b) ≡ true
 wider true u b more h = rw (more refl) refl
@@ -111,13 +103,13 @@ wider false false b more h = h
 
 pub busy_wider : (a b : Span) → ((j : ℕ) → is_in a j ≡ true → is_in b j ≡ true) → (i : ℕ) (slots : List Slot) → holds_busy a i slots ≡ true → holds_busy b i slots ≡ true
 busy_wider a b more i [] h = refl
-busy_wider a b more i (c ∷ slots) h = both_hold _ _ (wider (is_in a i) (is_in b i) (is_busy c.1) (more i) (first_holds _ _ h)) (busy_wider a b more (suc i) slots (rest_holds _ _ h))
+busy_wider a b more i (c ∷ slots) h = and_both _ _ (wider (is_in a i) (is_in b i) (is_busy c.1) (more i) (and_first _ _ h)) (busy_wider a b more (suc i) slots (and_second _ _ h))
 
 -- what leaves each cell as busy as it was
 pub busy_mapped : (f : Slot → Slot) → ((c : Slot) → is_busy (f c).1 ≡ is_busy c.1) → (a : Span) (i : ℕ) (slots : List Slot) → holds_busy a i slots ≡ true → holds_busy a i (map f slots) ≡ true
 busy_mapped f same a i [] h = refl
 busy_mapped f same a i (c ∷ slots) h =
-    both_hold _ _ (ap (λ (b : Bool). is_in a i || not b) (same c) ∙ first_holds _ _ h) (busy_mapped f same a (suc i) slots (rest_holds _ _ h))
+    and_both _ _ (ap (λ (b : Bool). is_in a i || not b) (same c) ∙ and_first _ _ h) (busy_mapped f same a (suc i) slots (and_second _ _ h))
 
 at_rest : (t b : Bool) → b ≡ false → (t || not b) ≡ true
 at_rest true b e = refl
@@ -125,7 +117,7 @@ at_rest false b e = rw e refl
 
 pub none_busy : (f : Slot → Slot) → ((c : Slot) → is_busy (f c).1 ≡ false) → (a : Span) (i : ℕ) (slots : List Slot) → holds_busy a i (map f slots) ≡ true
 none_busy f rests a i [] = refl
-none_busy f rests a i (c ∷ slots) = both_hold _ _ (at_rest (is_in a i) _ (rests c)) (none_busy f rests a (suc i) slots)
+none_busy f rests a i (c ∷ slots) = and_both _ _ (at_rest (is_in a i) _ (rests c)) (none_busy f rests a (suc i) slots)
 
 -- ---- the columns of both of two runs
 
@@ -144,18 +136,15 @@ same_tag_of index f c false i e = refl
 pub each_kept : (index : Index) (f : Slot → Slot) → ((c : Slot) → (f c).0 ≡ c.0) → (a : Span) (i : ℕ) (slots : List Slot) → has_each index i slots ≡ true → has_each index i (changed_in f a i slots) ≡ true
 each_kept index f same a i [] h = refl
 each_kept index f same a i (c ∷ slots) h =
-    both_hold _ _ (same_tag_of index f c (is_in a i) i (same c) ∙ first_holds _ _ h) (each_kept index f same a (suc i) slots (rest_holds _ _ h))
+    and_both _ _ (same_tag_of index f c (is_in a i) i (same c) ∙ and_first _ _ h) (each_kept index f same a (suc i) slots (and_second _ _ h))
 
 pub each_mapped : (index : Index) (f : Slot → Slot) → ((c : Slot) → (f c).0 ≡ c.0) → (i : ℕ) (slots : List Slot) → has_each index i slots ≡ true → has_each index i (map f slots) ≡ true
 each_mapped index f same i [] h = refl
 each_mapped index f same i (c ∷ slots) h =
-    both_hold _ _ (ap (λ (x : Tag). is_in (span_of index x) i) (same c) ∙ first_holds _ _ h) (each_mapped index f same (suc i) slots (rest_holds _ _ h))
-
-tags_alike : (a b : Tag) → same_tag a b ≡ true → a ≡ b
-tags_alike a b e = grind (arith, nat_tests)
+    and_both _ _ (ap (λ (x : Tag). is_in (span_of index x) i) (same c) ∙ and_first _ _ h) (each_mapped index f same (suc i) slots (and_second _ _ h))
 
 other_tag : (tag column : Tag) (t : Bool) → same_tag tag column ≡ t → (tag ≡ column → ⊥) → t ≡ false
-other_tag tag column true e differs = absurd (differs (tags_alike tag column e))
+other_tag tag column true e differs = absurd (differs (tag_is tag column e))
 other_tag tag column false e differs = refl
 
 -- what changes the cells of a tag alone may go to a run that holds the columns of it
@@ -164,11 +153,11 @@ pub tag_alone : (index : Index) (tag : Tag) (f : Slot → Slot) → ((c : Slot) 
 tag_alone index tag f stays a holds i [] h = refl
 tag_alone index tag f stays a holds i (c ∷ slots) h =
     ap (λ (x : Slot). x ∷ changed_in f a (suc i) slots) (by_place f c (is_in a i) (λ out. stays c (other_tag tag c.0 _ refl (λ same. differs same out))))
-    ∙ ap (λ (x : List Slot). f c ∷ x) (tag_alone index tag f stays a holds (suc i) slots (rest_holds _ _ h))
+    ∙ ap (λ (x : List Slot). f c ∷ x) (tag_alone index tag f stays a holds (suc i) slots (and_second _ _ h))
   where
     differs : tag ≡ c.0 → is_in a i ≡ false → ⊥
     differs same out =
-        let there : is_in (span_of index tag) i ≡ true = ap (λ (x : Tag). is_in (span_of index x) i) same ∙ first_holds _ _ h in
+        let there : is_in (span_of index tag) i ≡ true = ap (λ (x : Tag). is_in (span_of index x) i) same ∙ and_first _ _ h in
         true≢false (sym (holds i there) ∙ out)
 
 -- ---- the cells that are held
@@ -261,7 +250,7 @@ end_rests c = by_cell c.1
 
 pub begun_rest : (a : Span) (i : ℕ) (tags : List Tag) → holds_busy a i (begun_slots tags) ≡ true
 begun_rest a i [] = refl
-begun_rest a i (t ∷ tags) = both_hold _ _ (at_rest (is_in a i) false refl) (begun_rest a (suc i) tags)
+begun_rest a i (t ∷ tags) = and_both _ _ (at_rest (is_in a i) false refl) (begun_rest a (suc i) tags)
 
 pub begun_size : (tags : List Tag) → length (begun_slots tags) ≡ length tags
 begun_size [] = refl
@@ -290,9 +279,6 @@ at_own index tag column p same size =
     ap (λ (q : ℕ). get_or (added index tag column).spans q NONE) same
     ∙ get_or-set_same index.spans (place_of tag) (both (span_of index tag) (record { first = column; after = column + 1 })) NONE (omega (arith, size, within_places tag))
 
-same_self : (n : ℕ) → (n == n) ≡ true
-same_self n = grind (arith, nat_tests)
-
 grown : (index : Index) (tag other : Tag) (column j : ℕ) → length index.spans ≡ 256 → is_in (span_of index other) j ≡ true → is_in (span_of (added index tag column) other) j ≡ true
 grown index tag other column j size h = by_test (place_of other == place_of tag) refl
   where
@@ -304,20 +290,20 @@ grown index tag other column j size h = by_test (place_of other == place_of tag)
     by_test false e =
         ap (λ (x : Span). is_in x j)
         (get_or-set_other index.spans (place_of tag) (place_of other) (both (span_of index tag) (record { first = column; after = column + 1 })) NONE
-        (λ same. true≢false (sym (ap (λ (p : ℕ). p == place_of tag) same ∙ same_self (place_of tag)) ∙ e)))
+        (λ same. true≢false (sym (ap (λ (p : ℕ). p == place_of tag) same ∙ equals_itself (place_of tag)) ∙ e)))
         ∙ h
 
 each_grown : (index : Index) (tag : Tag) (column : ℕ) → length index.spans ≡ 256 → (i : ℕ) (slots : List Slot) → has_each index i slots ≡ true → has_each (added index tag column) i slots ≡ true
 each_grown index tag column size i [] h = refl
-each_grown index tag column size i (c ∷ slots) h = both_hold _ _ (grown index tag c.0 column i size (first_holds _ _ h)) (each_grown index tag column size (suc i) slots (rest_holds _ _ h))
+each_grown index tag column size i (c ∷ slots) h = and_both _ _ (grown index tag c.0 column i size (and_first _ _ h)) (each_grown index tag column size (suc i) slots (and_second _ _ h))
 
 each_more : (index : Index) (i : ℕ) (slots : List Slot) (c : Slot) → has_each index i slots ≡ true → is_in (span_of index c.0) (i + length slots) ≡ true → has_each index i (slots ++ c ∷ []) ≡ true
-each_more index i [] c h own = both_hold _ _ (ap (λ (j : ℕ). is_in (span_of index c.0) j) (nothing_more i) ∙ own) refl
+each_more index i [] c h own = and_both _ _ (ap (λ (j : ℕ). is_in (span_of index c.0) j) (nothing_more i) ∙ own) refl
   where
     nothing_more : (n : ℕ) → n ≡ n + 0
     nothing_more n = omega arith
 each_more index i (d ∷ slots) c h own =
-    both_hold _ _ (first_holds _ _ h) (each_more index (suc i) slots c (rest_holds _ _ h) (ap (λ (j : ℕ). is_in (span_of index c.0) j) (one_later i (length slots)) ∙ own))
+    and_both _ _ (and_first _ _ h) (each_more index (suc i) slots c (and_second _ _ h) (ap (λ (j : ℕ). is_in (span_of index c.0) j) (one_later i (length slots)) ∙ own))
   where
     one_later : (n m : ℕ) → suc n + m ≡ n + suc m
     one_later n m = omega arith

@@ -5,7 +5,7 @@ use Rattle.std.proofs.lemmas.Bool.Decides.{nat_tests}
 use Rattle.std.proofs.lemmas.List.{take-append-drop, length-take-le}
 use lib.Ieee.{nan_bits}
 use Rattle.dcm_base.specs.declared.vr.Vr.{Vr}
-use Rattle.dcm_base.specs.declared.vr.Vr.TheVariants.{AT, FD, FL, OD, OF, OL, OV, OW, SL, SS, SV, UL, US, UV}
+use Rattle.dcm_base.specs.declared.vr.Vr.TheVariants.{FD, FL}
 use Rattle.dcm_base.specs.Dump.ValueText.{shape, shown_unit, unit_text}
 use Rattle.dcm_base.specs.Tree.Value.{units}
 use Rattle.dcm_base.proofs.Conversions.UnitLaws.{units_cons, units_none}
@@ -14,6 +14,7 @@ use Rattle.dcm_table.specs.Parts.{Part, some_bytes, a_float, float_part, format_
 use Rattle.dcm_table.specs.Row.{unit_part, next_unit_parts, next_units_parts, joined}
 use Rattle.dcm_table.specs.Parts.{AppendsParts, AppendsFrontOfParts}
 use Rattle.dcm_table.proofs.PartsOut.{Out, part_out, bytes_out, out_failed, out_then}
+use Rattle.dcm_value.proofs.UnitOrder.HighestFirst.{shown_some}
 
 -- ---- bits that are no number
 
@@ -60,23 +61,6 @@ plain_part _ unit h k = refl
 pub plain_out : {T E : Type 0} (vr : Vr) (unit put : List ℕ) (old new : Option (List ℕ)) (r : Result T E) → (vr ≢ FL) → (vr ≢ FD) → put ≡ unit_text (shape vr) unit → Puts old new put r → Out old new (unit_part vr unit ∷ []) r
 plain_out {T} {E} vr unit put old new r h k e went =
     subst (λ (p : Part). Out {T = T} {E = E} old new (p ∷ []) r) (ap some_bytes e ∙ sym (plain_part vr unit h k)) (bytes_out old new put r went)
-
-pub shown_some : (vr : Vr) → 0 < shown_unit vr
-shown_some AT = omega arith
-shown_some FD = omega arith
-shown_some FL = omega arith
-shown_some OD = omega arith
-shown_some OF = omega arith
-shown_some OL = omega arith
-shown_some OV = omega arith
-shown_some OW = omega arith
-shown_some SL = omega arith
-shown_some SS = omega arith
-shown_some SV = omega arith
-shown_some UL = omega arith
-shown_some US = omega arith
-shown_some UV = omega arith
-shown_some _ = omega arith
 
 -- a whole unit in front
 pub first_unit : (vr : Vr) (value first others : List ℕ) (n : ℕ) → n ≡ shown_unit vr → n ≤ length value → first ≡ take n value → others ≡ drop n value

@@ -5,6 +5,8 @@ use Rattle.std.proofs.lemmas.Bool.{cases_lt, lt-ltb}
 use Rattle.std.proofs.lemmas.Bool.Decides.{nat_tests}
 use Rattle.std.proofs.lemmas.List.Sums.{fold-append}
 use mathlib.Core.Logic.{⊎_elim}
+use Rattle.dcm_lemmas.proofs.Numbers.{above_not_within}
+use Rattle.dcm_lemmas.proofs.Choice.{if_false, if_true}
 use Rattle.dcm_base.specs.declared.tag.Tag.{Tag}
 use Rattle.dcm_base.specs.declared.vr.Vr.{Vr}
 use Rattle.dcm_base.specs.declared.vr.Vr.TheVariants.{SQ, UN}
@@ -110,17 +112,8 @@ same_sets t z = z
 
 -- ---- a leaf
 
-if_true : (t : Bool) (x y : Cell) → t ≡ true → (if t then x else y) ≡ x
-if_true t x y e = rw e refl
-
-if_false : (t : Bool) (x y : Cell) → t ≡ false → (if t then x else y) ≡ y
-if_false t x y e = rw e refl
-
 le_true : (n m : ℕ) → n ≤ m → nat_le n m ≡ true
 le_true n m h = grind (arith, nat_tests)
-
-le_false : (n m : ℕ) → m < n → nat_le n m ≡ false
-le_false n m h = grind (arith, nat_tests)
 
 value_kept : (vr shown : Vr) (s : Syntax) (value : List ℕ) → ended (fold with_byte (open_value vr shown s []) (order s vr value)) ≡ (if nat_le (length value) 16384 then whole shown value else too_long)
 value_kept vr shown s value =
@@ -133,7 +126,7 @@ value_kept vr shown s value =
     ∙ sym (if_true (nat_le (length value) 16384) (whole shown value) too_long (le_true (length value) 16384 (omega (arith, short)))))
     (λ (long : 16385 ≤ length value).
     ap ended (passes vr shown s [] w (omega arith) (omega (arith, same, long)))
-    ∙ sym (if_false (nat_le (length value) 16384) (whole shown value) too_long (le_false (length value) 16384 (omega (arith, long)))))
+    ∙ sym (if_false (nat_le (length value) 16384) (whole shown value) too_long (above_not_within (length value) 16384 (omega (arith, long)))))
     (cases_lt (length value) 16385)
 
 leaf_opened : (b : Bool) (vr shown : Vr) (s : Syntax) (value : List ℕ)

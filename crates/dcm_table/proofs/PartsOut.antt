@@ -3,8 +3,9 @@ use Rattle.std.proofs.Common.{◌≡◌, ◌∙◌, sym, ap, refl, subst, ℕ, L
 use Rattle.std.specs.Prelude.{MatchResult, IsErr}
 use Rattle.std.specs.Io.KnownBytes.{append_known}
 use Rattle.std.proofs.lemmas.List.{append-nil}
+use Rattle.dcm_lemmas.proofs.Options.{known_nothing, known_twice}
 use Rattle.dcm_devices.specs.Device.{AppendsFront, Puts}
-use Rattle.dcm_devices.proofs.Writes.Puts.{append_known_twice, append_known_none, puts_behind}
+use Rattle.dcm_devices.proofs.Writes.Puts.{puts_behind}
 use Rattle.dcm_table.specs.Parts.{Part, some_bytes, SpellsPart, SpellsParts, AppendsParts, AppendsFrontOfParts}
 
 -- the parts went out whole, or a beginning of them where the call failed
@@ -31,7 +32,7 @@ pub bytes_out : {T E : Type 0} (old new : Option (List ℕ)) (bytes : List ℕ) 
 bytes_out old new bytes r put = part_out old new (some_bytes bytes) bytes r refl put
 
 pub nothing_out : (known : Option (List ℕ)) → AppendsParts known known []
-nothing_out known = record { text = []; spelled = refl; grown = sym (append_known_none known) }
+nothing_out known = record { text = []; spelled = refl; grown = sym (known_nothing known) }
 
 -- ---- one call and then another
 
@@ -39,7 +40,7 @@ pub appends_then : {old mid new : Option (List ℕ)} {ps qs : List Part} → App
 appends_then {old} {mid} {new} {ps} {qs} a b = record {
   text = a.text ++ b.text;
   spelled = spells_both ps qs a.text b.text a.spelled b.spelled;
-  grown = b.grown ∙ ap (λ (k : Option (List ℕ)). append_known k b.text) a.grown ∙ append_known_twice old a.text b.text;
+  grown = b.grown ∙ ap (λ (k : Option (List ℕ)). append_known k b.text) a.grown ∙ known_twice old a.text b.text;
 }
 
 pub front_then : {old mid new : Option (List ℕ)} {ps qs : List Part} → AppendsParts old mid ps → AppendsFrontOfParts mid new qs → AppendsFrontOfParts old new (ps ++ qs)

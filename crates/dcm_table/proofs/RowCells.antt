@@ -2,7 +2,6 @@
 use Rattle.std.proofs.Common.{◌≡◌, ◌∙◌, sym, ap, refl, subst, ℕ, suc, List, [], ◌∷◌, length, fold, arith, Option, Bool, true, false}
 use Rattle.std.specs.Prelude.{if◌then◌else◌}
 use Rattle.dcm_base.specs.declared.tag.Tag.{Tag}
-use Rattle.dcm_base.specs.declared.length.Length.{Length}
 use Rattle.dcm_base.specs.declared.length.Length.TheVariants.{Known, Undefined}
 use Rattle.dcm_base.specs.declared.syntax.Syntax.{Syntax}
 use Rattle.dcm_base.specs.declared.form.Form.TheVariants.{Value as a_value, Sequence as a_sequence, FragmentList as a_fragment_list}
@@ -10,11 +9,11 @@ use Rattle.dcm_base.specs.Tables.Tag.{sequence_end_tag, same_tag}
 use Rattle.dcm_base.specs.Tree.Tree.{Trees, no_tree, leaf, sequence, fragments}
 use Rattle.dcm_base.specs.Tree.Front.{Front, front, OpenTree, nothing_open, open_leaf, open_sequence, open_fragments}
 use Rattle.dcm_base.specs.Tree.Value.{order}
-use Rattle.dcm_base.specs.Bytes.Spelling.{Enclosed, TreesAt, ItemsAt, SpellsFront, inside, after, after_trees}
+use Rattle.dcm_base.specs.Bytes.Spelling.{TreesAt, ItemsAt, SpellsFront, inside, after, after_trees}
 use Rattle.dcm_base.specs.Reading.Reads.{Reads, ended as ended_front}
 use Rattle.dcm_base.specs.Reading.Stop.{Bar, Stop, complete, refused}
 use Rattle.dcm_base.specs.Steps.Atoms.{Atom, closes_leaf, closes_sequence, fragments_then, open_fragment_atoms, end_atoms, ShowItems, ShowsOpen, trees_then, items_then, front_atoms, open_atoms}
-use Rattle.dcm_base.proofs.DataSets.Shown.{items_shown, trees_shown, open_shown}
+use Rattle.dcm_base.proofs.DataSets.Shown.{items_shown, trees_shown, open_shown, enclosed_shown}
 use Rattle.dcm_sinks.specs.Laws.{StaysShallow}
 use Rattle.dcm_sinks.proofs.Dumps.OpenLists.{stays_on, stays_opened, stays_bytes, stays_fragments, stays_same, stays_trees, stays_items}
 use Rattle.dcm_text.specs.declared.sets.Sets.{Sets}
@@ -25,12 +24,6 @@ use Rattle.dcm_table.specs.TableSink.{Slot, State, next, kept_or}
 use Rattle.dcm_table.proofs.Inside.{at, items_inside, item_inside, fragments_inside, fragment_inside}
 use Rattle.dcm_table.proofs.Outside.{filled, filled_settled, filled_twice, filled_same, first_cell, first_sets, same_sets, or_none, leaf_here, leaf_sets, leaf_state, leaf_settled, leaf_cell_settled, leaf_first, leaf_first_sets, list_here, list_state, list_settled, list_first, list_first_sets, sequence_not_shown, sequence_sets_nothing, part_state}
 use Rattle.dcm_table.proofs.Settings.{kept_same}
-
--- what shows the contents shows what encloses them
-contents_shown : (s : Syntax) (end_tag : Tag) (declared : Length) (R : List ℕ → List ℕ → Type 0) (c e : List ℕ) (P : Type 0)
-    → ((b p : List ℕ) → R b p → P) → Enclosed s end_tag declared R c e → P
-contents_shown s end_tag (Known size) R c e P shown (i, ci, li, r) = shown i [] r
-contents_shown s end_tag Undefined R c e P shown (d, r, x) = shown c d r
 
 abbrev cells_in : Syntax → Trees → Tag → Cell
 cells_in s t column = trees_cell s column t
@@ -80,7 +73,7 @@ trees_fill (sequence tag vr declared items rest) s g slots b p others (contents,
     let here : Tag → Cell = list_here tag in
     let behind : List Atom = closes_sequence ∷ trees_then s rest others in
     let atoms : List Atom = items_then (inside s vr) items behind in
-    let shown : ShowItems items atoms behind = contents_shown (inside s vr) sequence_end_tag declared (ItemsAt (inside s vr) items) contents b' (ShowItems items atoms behind) (λ c d r. items_shown (inside s vr) items c d behind r) inner in
+    let shown : ShowItems items atoms behind = enclosed_shown (inside s vr) sequence_end_tag declared (ItemsAt (inside s vr) items) contents b' (ShowItems items atoms behind) (λ c d r. items_shown (inside s vr) items c d behind r) inner in
     let within = stays_opened 0 a_sequence tag vr declared s atoms fo low in
     let there = stays_on 1 closes_sequence (trees_then s rest others) (stays_items 1 items atoms behind shown within) in
     let settles' = filled_settled here same_sets (list_settled tag) slots settles in
@@ -109,7 +102,7 @@ trees_fill (fragments tag vr values rest) s g slots b p others (contents, b', fo
 
 -- ---- what is open
 
-all_settle : (slots : List Slot) → AllSettled slots → settled_slots slots ≡ slots
+pub all_settle : (slots : List Slot) → AllSettled slots → settled_slots slots ≡ slots
 all_settle [] h = refl
 all_settle (c ∷ slots) h = ap (λ (x : Cell). (c.0, x, c.2) ∷ settled_slots slots) h.0 ∙ ap (λ (x : List Slot). c ∷ x) (all_settle slots h.1)
 

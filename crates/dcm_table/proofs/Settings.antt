@@ -1,10 +1,11 @@
 -- Leaves that set what is in force.
-use Rattle.std.proofs.Common.{◌≡◌, ◌∙◌, sym, ap, refl, ℕ, ◌<◌, ◌≤◌, List, [], ◌∷◌, ◌++◌, length, take, map, fold, arith, append_assoc, Option, Some, None, Bool, true, false}
-use Rattle.std.specs.Prelude.{nat_lt, cond, ◌&&◌, option_map, if◌then◌else◌}
+use Rattle.std.proofs.Common.{◌≡◌, ◌∙◌, sym, ap, refl, ℕ, ◌<◌, ◌≤◌, List, [], ◌∷◌, ◌++◌, length, take, map, fold, append_assoc, Option, Some, None, Bool, true, false}
+use Rattle.std.specs.Prelude.{nat_lt, cond, option_map, if◌then◌else◌}
 use Rattle.std.proofs.lemmas.Bool.{lt-ltb, le-ltb, cases_lt}
-use Rattle.std.proofs.lemmas.Bool.Decides.{nat_tests}
 use Rattle.std.proofs.lemmas.List.{append-nil, length-append, take_all, take-append-le, length-take-le}
 use mathlib.Core.Logic.{⊎_elim}
+use Rattle.dcm_base.proofs.Dictionaries.TagOrder.{tag_is}
+use Rattle.dcm_lemmas.proofs.Truth.{and_first, and_second}
 use Rattle.dcm_base.specs.declared.tag.Tag.{Tag}
 use Rattle.dcm_base.specs.declared.vr.Vr.{Vr}
 use Rattle.dcm_base.specs.declared.vr.Vr.TheVariants.{AT, FD, FL, SL, SS, SV, UI, UL, UN, US, UV}
@@ -25,13 +26,9 @@ use Rattle.dcm_table.specs.InForce.{CHARACTER_SET, is_setting, may_set, set_by}
 use Rattle.dcm_table.specs.Shown.{cell_or}
 use Rattle.dcm_table.specs.TableSink.{Slot, kept_or, with_sets, with_setting_byte, setting_opened}
 use Rattle.dcm_sinks.specs.SettingValue.{sets_with}
-use Rattle.dcm_sinks.proofs.DecodedDumps.Settings.{kept_names, in_order, second}
+use Rattle.dcm_sinks.proofs.DecodedDumps.Settings.{kept_names, in_order}
 
 -- ---- what may set
-
-first : (a b : Bool) → (a && b) ≡ true → a ≡ true
-first true b e = refl
-first false b e = cc
 
 abbrev pub kept_of : Syntax → Tag → Vr → List ℕ → Option (List ℕ)
 kept_of s tag vr value = option_map (λ (x : List ℕ). fold with_setting_byte x (order s vr value)) (setting_opened (is_setting tag vr) None)
@@ -41,10 +38,10 @@ named_by s tag vr value sets = by_test (is_setting tag vr) refl
   where
     by_test : (t : Bool) → is_setting tag vr ≡ t
         → sets_with (option_map (λ (x : List ℕ). fold with_setting_byte x (order s vr value)) (setting_opened t None)) sets ≡ (if t then sets_of value else sets)
-    by_test true e = kept_names (order s vr value) ∙ ap sets_of (in_order s vr value (second (same_tag tag CHARACTER_SET) (may_set vr) e))
+    by_test true e = kept_names (order s vr value) ∙ ap sets_of (in_order s vr value (and_second (same_tag tag CHARACTER_SET) (may_set vr) e))
     by_test false e = refl
 
--- ---- columns whose first element is still to come
+-- ---- columns whose and_first element is still to come
 
 pub kept_same : (c : Cell) (x : Sets) → kept_or c x x ≡ x
 kept_same missing x = refl
@@ -110,15 +107,12 @@ setting_shown s tag US same e = refl
 setting_shown s tag UV same e = refl
 setting_shown s tag vr same e = e
 
-tags_alike : (a b : Tag) → same_tag a b ≡ true → a ≡ b
-tags_alike a b e = grind (arith, nat_tests)
-
 pub hidden_sets_nothing : (s : Syntax) (tag : Tag) (vr : Vr) → is_shown (shown_vr s tag vr) ≡ false → is_setting tag vr ≡ false
 hidden_sets_nothing s tag vr hidden = by_test (is_setting tag vr) refl
   where
     by_test : (t : Bool) → is_setting tag vr ≡ t → t ≡ false
     by_test false e = refl
     by_test true e =
-        let shown = setting_shown s tag vr (tags_alike tag CHARACTER_SET (first (same_tag tag CHARACTER_SET) (may_set vr) e)) (second (same_tag tag CHARACTER_SET) (may_set vr) e) in
+        let shown = setting_shown s tag vr (tag_is tag CHARACTER_SET (and_first (same_tag tag CHARACTER_SET) (may_set vr) e)) (and_second (same_tag tag CHARACTER_SET) (may_set vr) e) in
         let no : true ≡ false = sym shown ∙ hidden in
         absurd (cc)

@@ -7,9 +7,13 @@ use Rattle.std.proofs.lemmas.Str.{utf8_valid_len_le, utf8_valid_len-IsUtf8}
 use Rattle.std.proofs.lemmas.Grind.{flat_map-append}
 use Rattle.std.proofs.lemmas.Bool.Decides.{nat_tests}
 use Rattle.std.proofs.lemmas.List.{length-drop, get_or-drop}
+use Rattle.dcm_lemmas.proofs.Numbers.{below_not_equal}
+use Rattle.dcm_lemmas.proofs.Options.{known_twice}
+use Rattle.dcm_lemmas.proofs.Choice.{if_false, if_true}
 use Rattle.dcm_base.specs.Dump.ValueText.{lower}
 use Rattle.dcm_devices.specs.Device.{AppendsFront, Puts}
-use Rattle.dcm_devices.proofs.Writes.Puts.{append_known_twice, append_known_none, puts_behind, puts_err, front_longer}
+use Rattle.dcm_devices.proofs.Writes.Puts.{puts_behind, puts_err, front_longer}
+use Rattle.dcm_sinks.proofs.DecodedDumps.Characters.{TextSoFar, text_failed}
 use Rattle.dcm_table.specs.Quoted.{doubled, doubled_byte, escaped_byte, valid_within, valid_utf8}
 
 -- ---- the count of bytes is only a bound
@@ -18,18 +22,12 @@ abbrev one_more : ℕ → List ℕ → List ℕ
 one_more n bytes =
     take (utf8_valid_len bytes) bytes ++ (escaped_byte (slice_index bytes (utf8_valid_len bytes)) ++ valid_within n (drop (utf8_valid_len bytes + 1) bytes))
 
-first_chosen : (t : Bool) (x y : List ℕ) → t ≡ true → (if t then x else y) ≡ x
-first_chosen t x y e = rw e refl
-
-other_chosen : (t : Bool) (x y : List ℕ) → t ≡ false → (if t then x else y) ≡ y
-other_chosen t x y e = rw e refl
-
 none_valid : utf8_valid_len [] ≡ 0
 none_valid = omega (arith, utf8_valid_len_le [])
 
 empty_stays : (n : ℕ) → valid_within n [] ≡ []
 empty_stays zero = refl
-empty_stays (suc n) = first_chosen (utf8_valid_len [] == 0) [] (one_more n []) (ap (λ (v : ℕ). v == 0) none_valid)
+empty_stays (suc n) = if_true (utf8_valid_len [] == 0) [] (one_more n []) (ap (λ (v : ℕ). v == 0) none_valid)
 
 enough : (n m : ℕ) (bytes : List ℕ) → length bytes ≤ n → length bytes ≤ m → valid_within n bytes ≡ valid_within m bytes
 enough zero m [] h k = sym (empty_stays m)
@@ -41,15 +39,12 @@ enough (suc n) (suc m) bytes h k =
     ap (λ (x : List ℕ). if v == length bytes then bytes else take v bytes ++ (escaped_byte (slice_index bytes v) ++ x))
     (enough n m (drop (v + 1) bytes) (omega (arith, length-drop (v + 1) bytes, h)) (omega (arith, length-drop (v + 1) bytes, k)))
 
-apart : (a b : ℕ) → a < b → (a == b) ≡ false
-apart a b h = grind (arith, nat_tests)
-
 -- valid UTF-8 stays as it is
 pub valid_all : (bytes : List ℕ) → IsUtf8 bytes → valid_utf8 bytes ≡ bytes
 unfolding valid_utf8
 valid_all [] h = refl
 valid_all (x ∷ xs) h =
-    first_chosen (utf8_valid_len (x ∷ xs) == length (x ∷ xs)) (x ∷ xs) (one_more (length xs) (x ∷ xs))
+    if_true (utf8_valid_len (x ∷ xs) == length (x ∷ xs)) (x ∷ xs) (one_more (length xs) (x ∷ xs))
     (eq-eqb (utf8_valid_len (x ∷ xs)) (length (x ∷ xs)) (utf8_valid_len-IsUtf8 (x ∷ xs) h))
 
 -- up to the first byte that is no part of it
@@ -60,15 +55,15 @@ valid_step [] v e h = absurd (omega (arith, h))
 valid_step (x ∷ xs) v e h =
     let bytes : List ℕ = x ∷ xs in
     let n : ℕ = utf8_valid_len bytes in
-    other_chosen (n == length bytes) bytes (one_more (length xs) bytes) (apart n (length bytes) (omega (arith, e, h)))
+    if_false (n == length bytes) bytes (one_more (length xs) bytes) (below_not_equal n (length bytes) (omega (arith, e, h)))
     ∙ ap (λ (y : List ℕ). take n bytes ++ (escaped_byte (slice_index bytes n) ++ y))
     (enough (length xs) (length (drop (n + 1) bytes)) (drop (n + 1) bytes) (omega (arith, length-drop (n + 1) bytes)) (omega arith))
     ∙ ap (λ (m : ℕ). take m bytes ++ (escaped_byte (slice_index bytes m) ++ valid_within (length (drop (m + 1) bytes)) (drop (m + 1) bytes))) (sym e)
 
 -- ---- what is written of a text
 
-above_quote : (b : ℕ) → 34 < b → doubled_byte b ≡ b ∷ []
-above_quote b h = other_chosen (b == 34) (34 ∷ 34 ∷ []) (b ∷ []) (apart_above b 34 h)
+pub above_quote : (b : ℕ) → 34 < b → doubled_byte b ≡ b ∷ []
+above_quote b h = if_false (b == 34) (34 ∷ 34 ∷ []) (b ∷ []) (apart_above b 34 h)
   where
     apart_above : (b n : ℕ) → n < b → (b == n) ≡ false
     apart_above b n h = grind (arith, nat_tests)
@@ -85,31 +80,10 @@ escaped_plain b =
     ap (λ (x : List ℕ). 92 ∷ 120 ∷ (x ++ (doubled_byte (lower (b % 16)) ++ []))) high
     ∙ ap (λ (x : List ℕ). 92 ∷ 120 ∷ lower (b / 16) ∷ (x ++ [])) low
 
--- of all bytes these are to come
-pub record TextSoFar (old now : Option (List ℕ)) (all rest : List ℕ) : Type 0 where
-  pub first : List ℕ
-  pub whole : all ≡ first ++ rest
-  pub grown : now ≡ append_known old first
-
-pub text_none : (old : Option (List ℕ)) (all : List ℕ) → TextSoFar old old all all
-text_none old all = record { first = []; whole = refl; grown = sym (append_known_none old) }
-
-pub text_more : {old mid : Option (List ℕ)} {all rest : List ℕ} (new : Option (List ℕ)) (more after : List ℕ) → TextSoFar old mid all rest → rest ≡ more ++ after → new ≡ append_known mid more → TextSoFar old new all after
-text_more {old} {mid} {all} {rest} new more after s e g = record {
-  first = s.first ++ more;
-  whole = s.whole ∙ ap (λ (x : List ℕ). s.first ++ x) e ∙ sym (append_assoc s.first more after);
-  grown = g ∙ ap (λ (k : Option (List ℕ)). append_known k more) s.grown ∙ append_known_twice old s.first more;
-}
-
 -- the last of them
 pub text_last : {T E : Type 0} {old mid : Option (List ℕ)} {all rest : List ℕ} (new : Option (List ℕ)) (r : Result T E) → TextSoFar old mid all rest → Puts mid new rest r → Puts old new all r
 text_last {T} {E} {old} {mid} {all} {rest} new r s put =
     subst (λ (x : List ℕ). Puts {T = T} {E = E} old new x r) (sym s.whole) (puts_behind old mid new s.first rest r s.grown put)
-
--- the next of them broke off
-pub text_failed : {T E : Type 0} {old mid : Option (List ℕ)} {all rest : List ℕ} (new : Option (List ℕ)) (more after : List ℕ) (r : Result T E) → TextSoFar old mid all rest → rest ≡ more ++ after → IsErr r → AppendsFront mid new more → Puts old new all r
-text_failed {T} {E} {old} {mid} {all} {rest} new more after r s e failed front =
-    text_last new r s (puts_err mid new rest r failed (subst (AppendsFront mid new) (sym e) (front_longer after front)))
 
 -- up to the first byte that is no part of valid UTF-8, quotes doubled
 pub doubled_step : (bytes : List ℕ) (v : ℕ) → v ≡ utf8_valid_len bytes → v < length bytes
@@ -136,7 +110,7 @@ text_step rest valid after behind v byte e h f a b o =
 
 -- two parts went out, or the second broke off
 pub went_twice : (old one new : Option (List ℕ)) (first second : List ℕ) → one ≡ append_known old first → new ≡ append_known one second → new ≡ append_known old (first ++ second)
-went_twice old one new first second a b = b ∙ ap (λ (k : Option (List ℕ)). append_known k second) a ∙ append_known_twice old first second
+went_twice old one new first second a b = b ∙ ap (λ (k : Option (List ℕ)). append_known k second) a ∙ known_twice old first second
 
 pub broke_second : (old one new : Option (List ℕ)) (first second : List ℕ) → one ≡ append_known old first → AppendsFront one new second → AppendsFront old new (first ++ second)
 broke_second old one new first second a front = puts_behind {T = ℕ} {E = ℕ} old one new first second (Err 0) a front

@@ -148,7 +148,7 @@ are_bytes [] h i = omega arith
 are_bytes (b ∷ v) h zero = h.0
 are_bytes (b ∷ v) h (suc i) = are_bytes v h.1 i
 
-listed : (v : List ℕ) → Bytes v → list_all is_byte v ≡ true
+pub listed : (v : List ℕ) → Bytes v → list_all is_byte v ≡ true
 listed [] h = refl
 listed (b ∷ v) h = both_listed (is_byte b) (list_all is_byte v) (lt-ltb b 256 h.0) (listed v h.1)
   where

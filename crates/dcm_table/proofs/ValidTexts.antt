@@ -4,27 +4,21 @@ use Rattle.std.specs.Prelude.{slice_index, ◌/◌, ◌%◌, nat_lt, if◌then�
 use Rattle.std.specs.Str.{is_utf8}
 use Rattle.std.specs.Str.Lossy.{utf8_valid_len, valid_len_up_to}
 use Rattle.std.proofs.lemmas.Bool.{cases_lt}
-use Rattle.std.proofs.lemmas.Bool.Decides.{nat_tests}
 use Rattle.std.proofs.lemmas.Grind.{flat_map-append}
-use Rattle.std.proofs.lemmas.List.{length-drop, get_or-drop, append-nil, take_all}
+use Rattle.std.proofs.lemmas.List.{length-drop, append-nil, take_all}
 use Rattle.std.proofs.lemmas.Str.{IsUtf8-append, IsUtf8-nil, IsUtf8-from_ascii, IsUtf8-from_is_utf8, encode_ascii, encodes-append}
 use Rattle.std.proofs.lemmas.Str.Ascii.{IsAscii-nil, IsAscii-cons}
 use lib.Utf8.{scalar, scalars, encode, encodes}
 use mathlib.Core.Logic.{⊎_elim}
+use Rattle.dcm_lemmas.proofs.Numbers.{equal_numbers, not_below}
+use Rattle.dcm_lemmas.proofs.Truth.{and_parts}
 use Rattle.dcm_base.specs.Dump.ValueText.{lower, hex_byte}
 use Rattle.dcm_base.specs.Tables.Number.{AreBytes}
+use Rattle.dcm_table.proofs.Texts.{above_quote}
 use Rattle.dcm_table.specs.Quoted.{doubled, doubled_byte, quoted, escaped_byte, valid_within, valid_utf8}
+use Rattle.dcm_value.proofs.ReadBack.Units.{bytes_drop}
 
 -- ---- quotes doubled
-
-above_quote : (b : ℕ) → 34 < b → doubled_byte b ≡ b ∷ []
-above_quote b h = other (b == 34) (apart b 34 h)
-  where
-    apart : (b n : ℕ) → n < b → (b == n) ≡ false
-    apart b n h = grind (arith, nat_tests)
-
-    other : (t : Bool) → t ≡ false → (if t then 34 ∷ 34 ∷ [] else b ∷ []) ≡ b ∷ []
-    other t e = rw e refl
 
 abbrev AllAbove : List ℕ → Type 0
 AllAbove [] = Unit {0}
@@ -42,12 +36,9 @@ wide_above false true v a b c d e f g h i j is = (omega arith, (omega arith, tt)
 wide_above false false true a b c d e f g h i j is = (omega arith, (omega arith, (omega arith, tt)))
 wide_above false false false a b c d e f g h i j is = (omega arith, (omega arith, (omega arith, (omega arith, tt))))
 
-not_low : (n m : ℕ) → m ≤ n → nat_lt n m ≡ false
-not_low n m h = grind (arith, nat_tests)
-
 encode_above : (c : ℕ) → 128 ≤ c → AllAbove (encode c)
 unfolding encode
-encode_above c h = wide_above (nat_lt c 128) (nat_lt c 2048) (nat_lt c 65536) c (c / 64) (c % 64) (c / 4096) (c / 64 % 64) (c % 64) (c / 262144) (c / 4096 % 64) (c / 64 % 64) (c % 64) (not_low c 128 h)
+encode_above c h = wide_above (nat_lt c 128) (nat_lt c 2048) (nat_lt c 65536) c (c / 64) (c % 64) (c / 4096) (c / 64 % 64) (c % 64) (c / 262144) (c / 4096 % 64) (c / 64 % 64) (c % 64) (not_below c 128 h)
 
 low_doubled : (t : Bool) (c : ℕ) → encode c ≡ c ∷ [] → (if t then 34 ∷ 34 ∷ [] else c ∷ []) ++ [] ≡ encodes (if t then 34 ∷ 34 ∷ [] else c ∷ [])
 low_doubled true c e = let q : encode 34 ≡ 34 ∷ [] = encode_ascii 34 (omega arith) in sym (ap (λ (x : List ℕ). x ++ (encode 34 ++ [])) q ∙ ap (λ (x : List ℕ). 34 ∷ (x ++ [])) q)
@@ -68,15 +59,10 @@ all_doubled (c ∷ cs) =
     ∙ ap (λ (x : List ℕ). encodes (doubled_byte c) ++ x) (all_doubled cs)
     ∙ sym (encodes-append (doubled_byte c) (doubled cs))
 
-both_true : (a b : Bool) → (a && b) ≡ true → (a ≡ true) × (b ≡ true)
-both_true true true e = (refl, refl)
-both_true true false e = cc
-both_true false b e = cc
-
 scalars_both : (a b : List ℕ) → scalars a ≡ true → scalars b ≡ true → scalars (a ++ b) ≡ true
 scalars_both [] b e h = h
 scalars_both (c ∷ a) b e h =
-    let w = both_true (scalar c) (scalars a) e in
+    let w = and_parts (scalar c) (scalars a) e in
     ap (λ (t : Bool). t && scalars (a ++ b)) w.0 ∙ scalars_both a b w.1 h
 
 scalar_doubled : (t : Bool) (c : ℕ) → scalar c ≡ true → scalars (if t then 34 ∷ 34 ∷ [] else c ∷ []) ≡ true
@@ -86,7 +72,7 @@ scalar_doubled false c e = ap (λ (t : Bool). t && true) e
 scalars_doubled : (cs : List ℕ) → scalars cs ≡ true → scalars (doubled cs) ≡ true
 scalars_doubled [] e = refl
 scalars_doubled (c ∷ cs) e =
-    let w = both_true (scalar c) (scalars cs) e in
+    let w = and_parts (scalar c) (scalars cs) e in
     scalars_both (doubled_byte c) (doubled cs) (scalar_doubled (c == 34) c w.0) (scalars_doubled cs w.1)
 
 doubled_valid : (bytes : List ℕ) → IsUtf8 bytes → IsUtf8 (doubled bytes)
@@ -119,22 +105,16 @@ escaped_ascii b h =
     let low : lower (b % 16) < 128 = digit_low (b % 16) (omega arith) in
     IsAscii-cons 92 (120 ∷ hex_byte b) (omega arith) (IsAscii-cons 120 (hex_byte b) (omega arith) (IsAscii-cons (lower (b / 16)) (lower (b % 16) ∷ []) high (IsAscii-cons (lower (b % 16)) [] low IsAscii-nil)))
 
-pub bytes_behind : (n : ℕ) (bytes : List ℕ) → AreBytes bytes → AreBytes (drop n bytes)
-bytes_behind n bytes h = λ i. subst (λ (b : ℕ). b < 256) (sym (get_or-drop n bytes i 0)) (h (n + i))
-
-whole_test : (v n : ℕ) → (v == n) ≡ true → v ≡ n
-whole_test v n e = grind (arith, nat_tests)
-
 within_valid : (n : ℕ) (bytes : List ℕ) → AreBytes bytes → length bytes ≤ n → IsUtf8 (valid_within n bytes)
 within_valid zero [] h le = IsUtf8-nil
 within_valid zero (b ∷ bytes) h le = absurd (omega (arith, le))
 within_valid (suc n) bytes h le =
     let v : ℕ = utf8_valid_len bytes in
-    by_test v (longest_valid bytes) (v == length bytes) refl (within_valid n (drop (v + 1) bytes) (bytes_behind (v + 1) bytes h) (omega (arith, length-drop (v + 1) bytes, le)))
+    by_test v (longest_valid bytes) (v == length bytes) refl (within_valid n (drop (v + 1) bytes) (bytes_drop (v + 1) bytes h) (omega (arith, length-drop (v + 1) bytes, le)))
   where
     by_test : (v : ℕ) → IsUtf8 (take v bytes) → (t : Bool) → (v == length bytes) ≡ t → IsUtf8 (valid_within n (drop (v + 1) bytes))
         → IsUtf8 (if t then bytes else take v bytes ++ (escaped_byte (slice_index bytes v) ++ valid_within n (drop (v + 1) bytes)))
-    by_test v front true e rest = subst IsUtf8 (take_all v bytes (omega (arith, whole_test v (length bytes) e))) front
+    by_test v front true e rest = subst IsUtf8 (take_all v bytes (omega (arith, equal_numbers v (length bytes) e))) front
     by_test v front false e rest =
         IsUtf8-append (take v bytes) (escaped_byte (slice_index bytes v) ++ valid_within n (drop (v + 1) bytes)) front
         (IsUtf8-append (escaped_byte (slice_index bytes v)) (valid_within n (drop (v + 1) bytes)) (IsUtf8-from_ascii (escaped_byte (slice_index bytes v)) (escaped_ascii (slice_index bytes v) (h v))) rest)

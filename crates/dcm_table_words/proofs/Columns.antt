@@ -1,9 +1,17 @@
 -- The columns of words, one after another.
-use Rattle.std.proofs.Common.{◌≡◌, ◌∙◌, ap, sym, refl, ℕ, ◌+◌, ◌<◌, ◌≤◌, Bool, true, List, [], ◌∷◌, ◌++◌, append_assoc, length, take, map, Some, Result, Ok, Err, arith, inl, inr, ◌⊎◌, length-append}
-use Rattle.std.specs.Prelude.{filter_map, IsOk, OnOk, OnErr, nat_le, ◌&&◌, if◌then◌else◌}
+use Rattle.std.proofs.Common.{◌≡◌, ◌∙◌, ap, sym, refl, ℕ, ◌+◌, ◌<◌, ◌≤◌, Bool, true, false, Option, None, List, [], ◌∷◌, ◌++◌, append_assoc, length, take, map, Some, Result, Ok, Err, arith, inl, inr, ◌⊎◌, length-append}
+use Rattle.std.specs.Prelude.{filter_map, IsOk, OnOk, OnErr, nat_le, ◌==◌, ◌&&◌, if◌then◌else◌}
 use Rattle.std.proofs.lemmas.Bool.Decides.{nat_tests}
 use Rattle.std.proofs.lemmas.List.{append-nil, take_all, take-append-le, length-map, length-take, map-append}
 use Rattle.std.proofs.lemmas.Bool.{cases_lt}
+use Rattle.dcm_lemmas.proofs.Options.{on_ok}
+use Rattle.std.specs.Str.{byte}
+use Rattle.dcm_base.specs.declared.tag.Tag.{Tag}
+use Rattle.dcm_base.specs.declared.fault.EditRefusal.{EditRefusal}
+use Rattle.dcm_base.specs.declared.fault.EditRefusal.TheVariants.{BadOption, UnknownTag}
+use Rattle.dcm_base.specs.Lines.ReadValue.{tag_of_text}
+use Rattle.dcm_edits.specs.EditWords.{or_refuse}
+use Rattle.dcm_edits.specs.TagWords.{tag_named, tag_called, begins_number}
 use Rattle.dcm_table_words.specs.declared.usage.TableUsage.{TableUsage}
 use Rattle.dcm_table_words.specs.declared.usage.TableUsage.TheVariants.{NumberOfColumns}
 use Rattle.dcm_table_words.specs.Table.{Column, Saying, columns_after, columns_meant, column_said, column_of, within_limit, width, column, no_column, no_header, as_is, decoded, name, unknown}
@@ -37,10 +45,6 @@ column_more n read s said others w c is gives means =
     ∙ onto_after read c (columns_after (n + 1) (filter_map column_said others))
 
 -- ---- the first ones are kept
-
-on_ok : {T E P : Type 0} (r : Result T E) → IsOk r → OnOk r P → P
-on_ok (Ok x) is p = p
-on_ok (Err x) is p = cc
 
 on_err : {T E P : Type 0} (r : Result T E) → (IsOk r → ⊥) → OnErr r P → P
 on_err (Ok x) is p = absurd (is refl)
@@ -98,3 +102,26 @@ all_meant said none read kept number same is counted keeps some few =
     all_columns said read (same ∙ ap (λ ss. after_columns read (columns_after number (filter_map column_said ss))) is ∙ ap Ok (append-nil read))
     ∙ few_columns read (omega (arith, counted, some)) (omega (arith, counted, few))
     ∙ ap Ok (sym (keeps ∙ take_all 64 read (omega (arith, counted, few))))
+
+-- ---- a number
+
+by_tests : (a b c d : Bool) (o : Option Tag) (t : Tag) → (if a && b && c && d then o else None) ≡ Some t → a ≡ true
+by_tests true b c d o t e = refl
+by_tests false b c d o t e = absurd (cc)
+
+of_text : (w : List ℕ) (t : Tag) → tag_of_text w ≡ Some t → length w ≡ 11
+of_text w t e =
+    let same : (length w == 11) ≡ true = by_tests (length w == 11) _ _ _ _ t e in
+    grind (arith, nat_tests, same)
+
+or_refused : (refusal : EditRefusal) (o : Option Tag) (t : Tag) → or_refuse refusal o ≡ Ok t → o ≡ Some t
+or_refused refusal None t e = absurd (cc)
+or_refused refusal (Some u) t e = let same : u ≡ t = cc in ap Some same
+
+number_first : (b : Bool) (w : List ℕ) (o : Option Tag) (t : Tag) → b ≡ true → (if b then or_refuse BadOption (tag_of_text w) else or_refuse UnknownTag o) ≡ Ok t → length w ≡ 11
+number_first true w o t is e = of_text w t (or_refused BadOption (tag_of_text w) t e)
+number_first false w o t is e = absurd (cc)
+
+pub number_size : (w : List ℕ) (t : Tag) → tag_named w ≡ Ok t → begins_number w ≡ true → length w ≡ 11
+number_size [] t e is = absurd (cc)
+number_size (c ∷ cs) t e is = number_first (c == byte "(") (c ∷ cs) (tag_called (c ∷ cs)) t is e

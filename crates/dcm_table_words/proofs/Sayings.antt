@@ -1,8 +1,9 @@
 -- What words say, one after another.
 use Rattle.std.proofs.Common.{◌≡◌, ◌∙◌, ap, sym, refl, ℕ, ◌+◌, ◌<◌, List, [], ◌∷◌, length, drop, get_or, None, Bool, true, false, arith, drop-cons, add-one, Bor}
-use Rattle.std.specs.Prelude.{codes, bytes_eq, not, ◌==◌, if◌then◌else◌}
+use Rattle.std.specs.Prelude.{codes, bytes_eq, ◌==◌, if◌then◌else◌}
 use Rattle.std.specs.Str.{byte}
-use Rattle.dcm_table_words.specs.Table.{Saying, unknown, no_header, as_is, decoded, name, file, list, sayings, word_says, other_word, is_option, is_column, width, word_fault, refused}
+use Rattle.dcm_table_words.specs.Table.{Saying, unknown, no_header, as_is, decoded, name, file, list, sayings, word_says, other_word, is_option, has_value, width, word_fault, refused}
+use Rattle.dcm_table_words.specs.declared.saying.Tool.{Tool}
 use Rattle.dcm_table_words.specs.Said.{texts, sayings_of, Says}
 
 -- the word at a place, and those after it
@@ -24,19 +25,15 @@ other_wide (c ∷ cs) =
 pub says_wide : (w : List ℕ) → width (word_says w) ≡ 1
 says_wide w = one_wide (bytes_eq w (codes "+nh")) no_header _ refl (one_wide (bytes_eq w (codes "+by")) as_is _ refl (one_wide (bytes_eq w (codes "+u8")) decoded (other_word w) refl (other_wide w)))
 
-other_said : (w : List ℕ) (words : List (List ℕ)) → is_column w ≡ false → sayings (w ∷ words) ≡ word_says w ∷ sayings words
-other_said w [] e = rw (e, sayings) refl
-other_said w (v ∷ words) e = rw (e, sayings) refl
+other_said : (tool : Tool) (w : List ℕ) (words : List (List ℕ)) → has_value tool w ≡ false → sayings tool (w ∷ words) ≡ word_says w ∷ sayings tool words
+other_said tool w [] e = rw (e, sayings) refl
+other_said tool w (v ∷ words) e = rw (e, sayings) refl
 
-not_so : (b : Bool) → true ≡ not b → b ≡ false
-not_so true e = cc
-not_so false e = refl
-
-pub word_at : (s : Saying) (at : ℕ) (ws : List (Bor (List ℕ))) (d : Bor (List ℕ)) → at < length ws → true ≡ not (is_column (get_or ws at d).now) → s ≡ word_says (get_or ws at d).now → Says s (at + 1) at ws
-word_at s at ws d h other is =
+pub word_at : (tool : Tool) (s : Saying) (at : ℕ) (ws : List (Bor (List ℕ))) (d : Bor (List ℕ)) → at < length ws → has_value tool (get_or ws at d).now ≡ false → s ≡ word_says (get_or ws at d).now → Says tool s (at + 1) at ws
+word_at tool s at ws d h other is =
     let w : List ℕ = (get_or ws at d).now in
     record {
-      said = ap sayings (next_word at ws d h) ∙ other_said w (texts (drop (at + 1) ws)) (not_so (is_column w) other) ∙ ap (λ x. x ∷ sayings_of (drop (at + 1) ws)) (sym is);
+      said = ap (sayings tool) (next_word at ws d h) ∙ other_said tool w (texts (drop (at + 1) ws)) other ∙ ap (λ x. x ∷ sayings_of tool (drop (at + 1) ws)) (sym is);
       place = ap (λ k. at + k) (sym (ap width is ∙ says_wide w));
       within = omega (arith, h);
     }

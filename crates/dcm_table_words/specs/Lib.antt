@@ -1,4 +1,3 @@
-pub mod Keywords
 pub mod Table
 pub mod Usages
 pub mod Columns

@@ -10,34 +10,29 @@ use Rattle.dcm_table_words.specs.declared.usage.TableUsage.{TableUsage}
 use Rattle.dcm_table_words.specs.Table as spec
 use Rattle.dcm_table_words.specs.Columns.{column_as}
 use Rattle.dcm_table_words.specs.declared.saying.Saying.{Saying}
-use Rattle.dcm_table_words.specs.Said.{alone_of, said_as, sayings_of}
+use Rattle.dcm_table_words.specs.Said.{said_as, sayings_of}
 use Rattle.std.specs.Borrow.{Bor}
 
 abbrev pub name_as : Name → spec.Name
 name_as (names.File path) = spec.file path.now
 name_as (names.List path) = spec.list path.now
 
--- what words say, by whether an option among them has a column after it
-abbrev pub said_in : (has_columns : Bool) → List (Bor (List ℕ)) → List spec.Saying
-said_in true words = sayings_of words
-said_in false words = alone_of words
-
 -- the words from a place on say this first, and then what those from a later place on say
 pub record SaysIn (s : spec.Saying) (next at : ℕ) (n : NameWords) : Type 0 where
-  pub said : said_in n.has_columns (drop at n.words.now) ≡ s ∷ said_in n.has_columns (drop next n.words.now)
+  pub said : sayings_of n.tool (drop at n.words.now) ≡ s ∷ sayings_of n.tool (drop next n.words.now)
   pub later : at < next
   pub within : next ≤ length n.words.now
 
 abbrev pub SaidIn : Option (Saying × ℕ) → (at : ℕ) → NameWords → Type 0
-SaidIn None at n = said_in n.has_columns (drop at n.words.now) ≡ []
+SaidIn None at n = sayings_of n.tool (drop at n.words.now) ≡ []
 SaidIn (Some s) at n = SaysIn (said_as s.0) s.1 at n
 
 -- the names among words, and among those from a place on
 abbrev pub names_from : NameWords → ℕ → List spec.Name
-names_from n place = spec.names_in (said_in n.has_columns (drop place n.words.now))
+names_from n place = spec.names_in (sayings_of n.tool (drop place n.words.now))
 
 abbrev pub names_as : NameWords → List spec.Name
-names_as n = spec.names_in (said_in n.has_columns n.words.now)
+names_as n = spec.names_in (sayings_of n.tool n.words.now)
 
 -- the first of them, with the place of the others, which comes later
 pub record Names (m : spec.Name) (next : ℕ) (n : NameWords) (place : ℕ) : Type 0 where

@@ -1,7 +1,7 @@
 -- What the words of dcm2csv mean.
 use Rattle.std.specs.Prelude.{ℕ, ◌+◌, List, [], ◌∷◌, length, Option, Some, None, Result}
 use Rattle.std.specs.Prelude.{Ok, Err, Bool, true, false, ◌||◌}
-use Rattle.std.specs.Prelude.{◌&&◌, not, ◌==◌, nat_le, nat_lt, if◌then◌else◌, codes, bytes_eq, filter_map, option_map}
+use Rattle.std.specs.Prelude.{◌&&◌, not, ◌==◌, nat_le, nat_lt, if◌then◌else◌, codes, bytes_eq, filter_map}
 use Rattle.std.specs.Prelude.{count_by, fold}
 use Rattle.std.specs.List.{list_any}
 use Rattle.std.specs.Str.{byte}
@@ -9,14 +9,14 @@ use Rattle.dcm_base.specs.declared.tag.Tag.{Tag}
 use Rattle.dcm_base.specs.declared.fault.WordFault.{WordFault}
 use Rattle.dcm_base.specs.declared.fault.WordFault.TheVariants.{UnknownTool, UnknownOption, BadOptionValue}
 use Rattle.dcm_base.specs.declared.fault.EditRefusal.{EditRefusal}
-use Rattle.dcm_base.specs.declared.fault.EditRefusal.TheVariants.{BadOption, UnknownTag}
-use Rattle.dcm_base.specs.Lines.ReadValue.{tag_of_text}
 use Rattle.dcm_table_words.specs.declared.plan.Texts.{Texts}
 use Rattle.dcm_table_words.specs.declared.plan.Texts.TheVariants.{Escaped, AsTheyAre, Characters}
 use Rattle.dcm_table_words.specs.declared.usage.TableUsage.{TableUsage}
 use Rattle.dcm_table_words.specs.declared.usage.TableUsage.TheVariants.{AtWord, InColumn, NumberOfColumns, WrongPaths}
 use Rattle.dcm_table_words.specs.declared.usage.TableUsage.TheVariants.{StandardTwice}
-use Rattle.dcm_table_words.specs.Keywords.{tag_called}
+use Rattle.dcm_table_words.specs.declared.saying.Tool.{Tool}
+use Rattle.dcm_table_words.specs.declared.saying.Tool.TheVariants as tools
+use Rattle.dcm_edits.specs.TagWords.{tag_named, begins_number}
 
 -- a column: the tag whose values it shows, and the number by which it was given, where it was not by a keyword
 pub record Column : Type 0 where
@@ -38,7 +38,7 @@ pub record Table : Type 0 where
 -- ---- what words say
 
 pub data Saying : Type 0 where
-  -- a column, and an option that wants one where no word comes after it
+  -- a column or an element, and an option that wants one where no word comes after it
   column : List ℕ → Saying
   no_column : Saying
   no_header as_is decoded : Saying
@@ -62,15 +62,16 @@ abbrev pub word_says : List ℕ → Saying
 word_says w = if bytes_eq w (codes "+nh") then no_header else if bytes_eq w (codes "+by") then as_is
     else if bytes_eq w (codes "+u8") then decoded else other_word w
 
--- the word after which a column comes, whatever it is
-abbrev pub is_column : List ℕ → Bool
-is_column w = bytes_eq w (codes "-k")
+-- the word after which a column comes, or an element that a dump shows, whatever it is
+abbrev pub has_value : Tool → List ℕ → Bool
+has_value tools.Table w = bytes_eq w (codes "-k")
+has_value tools.Dump w = bytes_eq w (codes "+P")
 
-abbrev pub sayings : List (List ℕ) → List Saying
-sayings [] = []
-sayings (w ∷ []) = elim (is_column w) [ true ↦ no_column ∷ [] | false ↦ word_says w ∷ [] ]
-sayings (w ∷ v ∷ words) =
-    elim (is_column w) [ true ↦ column v ∷ sayings words | false ↦ word_says w ∷ sayings (v ∷ words) ]
+abbrev pub sayings : Tool → List (List ℕ) → List Saying
+sayings tool [] = []
+sayings tool (w ∷ []) = elim (has_value tool w) [ true ↦ no_column ∷ [] | false ↦ word_says w ∷ [] ]
+sayings tool (w ∷ v ∷ words) =
+    elim (has_value tool w) [ true ↦ column v ∷ sayings tool words | false ↦ word_says w ∷ sayings tool (v ∷ words) ]
 
 -- how many words say it
 abbrev pub width : Saying → ℕ
@@ -92,21 +93,13 @@ refused n (s ∷ others) =
 
 -- ---- columns
 
-abbrev pub numbered_column : List ℕ → Option Column
-numbered_column w = option_map (λ t. record { tag = t; number = Some w }) (tag_of_text w)
-
-abbrev pub called_column : List ℕ → Option Column
-called_column w = option_map (λ t. record { tag = t; number = None }) (tag_called w)
-
-abbrev pub or_refusal : EditRefusal → Option Column → Result Column EditRefusal
-or_refusal refusal None = Err refusal
-or_refusal refusal (Some c) = Ok c
+-- the number by which a word names a tag, where it does not name it by a keyword
+abbrev pub number_of : List ℕ → Option (List ℕ)
+number_of w = if begins_number w then Some w else None
 
 -- a number of any tag, or a keyword of the whole dictionary
 abbrev pub column_of : List ℕ → Result Column EditRefusal
-column_of [] = Err BadOption
-column_of (c ∷ cs) = if c == byte "(" then or_refusal BadOption (numbered_column (c ∷ cs))
-    else or_refusal UnknownTag (called_column (c ∷ cs))
+column_of w = elim (tag_named w) [ Ok tag ↦ Ok (record { tag = tag; number = number_of w }) | Err refusal ↦ Err refusal ]
 
 abbrev pub column_said : Saying → Option (List ℕ)
 column_said (column w) = Some w
@@ -198,4 +191,4 @@ table_said said = elim (refused 2 said) [
 unfoldable pub meant_table : List (List ℕ) → Result Table TableUsage
 meant_table [] = Err (AtWord UnknownTool 1)
 meant_table (tool ∷ words) =
-    if bytes_eq tool (codes "dcm2csv") then table_said (sayings words) else Err (AtWord UnknownTool 1)
+    if bytes_eq tool (codes "dcm2csv") then table_said (sayings tools.Table words) else Err (AtWord UnknownTool 1)

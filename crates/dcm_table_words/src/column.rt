@@ -1,11 +1,12 @@
 // A column of a table.
-ghost use Rattle.std.specs.Prelude.{◌≡◌, option_map};
+ghost use Rattle.std.specs.Prelude.{◌≡◌, length, true};
+ghost use Rattle.dcm_edits.specs.TagWords.{begins_number};
+ghost use Rattle.dcm_table_words.specs.declared.column.TheConstants.{NUMBER_SIZE};
 ghost use Rattle.dcm_table_words.specs.Table as spec;
-ghost use Rattle.dcm_table_words.specs.Keywords as keywords;
-ghost use Rattle.dcm_table_words.specs.Columns.{column_as, ColumnAs};
+ghost use Rattle.dcm_table_words.specs.Columns.{ColumnAs};
 
-use dcm_base::{Dictionary, EditRefusal, Tag, ambiguous_tag, tag_in};
-use dcm_value::tag_of_text;
+use dcm_base::{EditRefusal, Tag};
+use dcm_edits::tag_named;
 
 /// The bytes of a number `(gggg,eeee)`.
 pub const NUMBER_SIZE: usize = 11;
@@ -26,38 +27,27 @@ impl Default for TableColumn {
     }
 }
 
-/// The tag with the keyword, of the whole dictionary.
-fn tag_called(keyword: &[u8]) -> Option<Tag>
-    ensures { result ≡ keywords.tag_called keyword.now }
+/// The number by which a word names a tag, where it does not name it by a keyword.
+fn number_of(word: &[u8]) -> Option<[u8; NUMBER_SIZE]>
+    requires { begins_number word.now ≡ true → length word.now ≡ NUMBER_SIZE }
+    ensures { result ≡ spec.number_of word.now }
 {
-    match tag_in(Dictionary::Standard, keyword) {
-        Some(tag) => Some(tag),
-        None => ambiguous_tag(keyword),
+    match word {
+        [b'(', ..] => {
+            let (number, _) = word.split_first_chunk()?;
+            Some(*number)
+        }
+        _ => None,
     }
-}
-
-/// The column of a number.
-fn numbered_column(word: &[u8]) -> Option<TableColumn>
-    ensures { option_map column_as result ≡ spec.numbered_column word.now }
-{
-    let tag = tag_of_text(word)?;
-    let (number, _) = word.split_first_chunk()?;
-    Some(TableColumn {
-        tag,
-        number: Some(*number),
-    })
 }
 
 /// The column that a word means.
 pub fn column_of(word: &[u8]) -> Result<TableColumn, EditRefusal>
     ensures { ColumnAs result (spec.column_of word.now) }
 {
-    match word {
-        [] => Err(EditRefusal::BadOption),
-        [b'(', ..] => numbered_column(word).ok_or(EditRefusal::BadOption),
-        _ => match tag_called(word) {
-            Some(tag) => Ok(TableColumn { tag, number: None }),
-            None => Err(EditRefusal::UnknownTag),
-        },
-    }
+    let tag = tag_named(word)?;
+    Ok(TableColumn {
+        tag,
+        number: number_of(word),
+    })
 }

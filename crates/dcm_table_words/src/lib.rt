@@ -2,7 +2,7 @@
 //!
 //! - `table_plan` reads the words of a command line into a `TablePlan`: the columns, and what the words say of header
 //!   and texts. `NameWords::after` gives its names one after another.
-//! - `NameWords::among` has the names among the words of a tool of which no option has a value.
+//! - `NameWords::among` has the names among the words of a `Tool`.
 //! - Words that it refuses are a `TableUsage`: which word is wrong and why, which column, or the words as a
 //!   whole. `put_usage` writes the line that reports it.
 //!
@@ -24,5 +24,6 @@ pub use column::{NUMBER_SIZE, TableColumn};
 pub use plan::{
     MOST_COLUMNS, Name, NameWords, TablePlan, Texts, has_empty, has_standard_twice, table_plan,
 };
+pub use saying::Tool;
 pub use usage::TableUsage;
 pub use usage_line::put_usage;

@@ -2,12 +2,13 @@
 ghost use Rattle.std.specs.Prelude.{◌≡◌, nat_lt, count_by, map, option_map};
 ghost use Rattle.std.specs.List.{list_any};
 ghost use Rattle.dcm_table_words.specs.Table as spec;
-ghost use Rattle.dcm_table_words.specs.Said.{alone_of, said_as, sayings_of};
+ghost use Rattle.dcm_table_words.specs.Said.{said_as, sayings_of};
+ghost use Rattle.dcm_table_words.specs.declared.saying.Tool.TheVariants.{Table};
 ghost use Rattle.dcm_table_words.specs.Plans.{name_as, names_as, FirstName, GivesColumns};
 ghost use Rattle.dcm_table_words.specs.Plans.{PassesNames, GivesTable, SaidIn};
 
 use crate::column::{TableColumn, column_of};
-use crate::saying::{Saying, alone_at, saying_at};
+use crate::saying::{Saying, Tool, saying_at};
 use crate::usage::TableUsage;
 use arrayvec::ArrayVec;
 use dcm_base::WordFault;
@@ -27,11 +28,11 @@ pub enum Name<'a> {
     List(&'a [u8]),
 }
 
-/// The names among words, in their order. In some words an option has a column after it, which is no name.
+/// The names among the words of a tool, in their order. The value of an option is no name.
 #[derive(Clone, Copy)]
 pub struct NameWords<'a> {
+    tool: Tool,
     words: &'a [&'a [u8]],
-    has_columns: bool,
 }
 
 /// How texts and names are written.
@@ -88,10 +89,10 @@ fn name_said<'a>(saying: Saying<'a>) -> Option<Name<'a>>
 
 /// The first refusal of a word, where the words of a tool come after its name.
 fn refused_word<'a>(words: &'a [&'a [u8]]) -> Option<TableUsage>
-    ensures { result ≡ spec.refused 2 (sayings_of words.now) }
+    ensures { result ≡ spec.refused 2 (sayings_of Table words.now) }
 {
     let mut at = 0;
-    while let Some((saying, next)) = saying_at(words, at) {
+    while let Some((saying, next)) = saying_at(Tool::Table, words, at) {
         if let Some(fault) = word_fault(saying) {
             return Some(TableUsage::AtWord(fault, at + 2));
         }
@@ -109,10 +110,10 @@ fn is_no_header(saying: Saying) -> bool
 
 /// Whether words leave the header out.
 fn has_no_header<'a>(words: &'a [&'a [u8]]) -> bool
-    ensures { result ≡ list_any spec.is_no_header (sayings_of words.now) }
+    ensures { result ≡ list_any spec.is_no_header (sayings_of Table words.now) }
 {
     let mut at = 0;
-    while let Some((saying, next)) = saying_at(words, at) {
+    while let Some((saying, next)) = saying_at(Tool::Table, words, at) {
         if is_no_header(saying) {
             return true;
         }
@@ -134,11 +135,11 @@ fn texts_after(texts: Texts, saying: Saying) -> Texts
 
 /// How texts are written: the last word that says it counts.
 fn texts_said<'a>(words: &'a [&'a [u8]]) -> Texts
-    ensures { result ≡ spec.texts_said (sayings_of words.now) }
+    ensures { result ≡ spec.texts_said (sayings_of Table words.now) }
 {
     let mut texts = Texts::Escaped;
     let mut at = 0;
-    while let Some((saying, next)) = saying_at(words, at) {
+    while let Some((saying, next)) = saying_at(Tool::Table, words, at) {
         texts = texts_after(texts, saying);
         at = next;
     }
@@ -147,12 +148,12 @@ fn texts_said<'a>(words: &'a [&'a [u8]]) -> Texts
 
 /// The columns of words, or the first refusal.
 fn columns_in<'a>(words: &'a [&'a [u8]]) -> Result<ArrayVec<TableColumn, MOST_COLUMNS>, TableUsage>
-    ensures { GivesColumns (λ cs. cs.items) result (spec.columns_meant (sayings_of words.now)) }
+    ensures { GivesColumns (λ cs. cs.items) result (spec.columns_meant (sayings_of Table words.now)) }
 {
     let mut columns = ArrayVec::new();
     let mut number = 0;
     let mut at = 0;
-    while let Some((saying, next)) = saying_at(words, at) {
+    while let Some((saying, next)) = saying_at(Tool::Table, words, at) {
         if let Some(word) = column_said(saying) {
             number += 1;
             match column_of(word) {
@@ -172,24 +173,18 @@ fn columns_in<'a>(words: &'a [&'a [u8]]) -> Result<ArrayVec<TableColumn, MOST_CO
 }
 
 impl<'a> NameWords<'a> {
-    /// The names among words of which no option has a value.
-    pub fn among(words: &'a [&'a [u8]]) -> NameWords<'a>
-        ensures { names_as result ≡ spec.names_in (alone_of words.now) }
+    /// The names among the words of a tool, which come after its name.
+    pub fn among(tool: Tool, words: &'a [&'a [u8]]) -> NameWords<'a>
+        ensures { names_as result ≡ spec.names_in (sayings_of tool words.now) }
     {
-        NameWords {
-            words,
-            has_columns: false,
-        }
+        NameWords { tool, words }
     }
 
     /// What the words from this place on say first, and the place of the words after that.
     fn saying(self, at: usize) -> Option<(Saying<'a>, usize)>
         ensures { SaidIn result at self.entry }
     {
-        if self.has_columns {
-            return saying_at(self.words, at);
-        }
-        alone_at(self.words, at)
+        saying_at(self.tool, self.words, at)
     }
 
     /// The first name from a place among the words on, and the place after it. The first place is 0.
@@ -266,16 +261,13 @@ fn check_names(names: NameWords) -> Result<(), TableUsage>
 
 /// The table that the words after the tool's name mean, or the first refusal.
 fn plan_of<'a>(words: &'a [&'a [u8]]) -> Result<TablePlan<'a>, TableUsage>
-    ensures { GivesTable result (spec.table_said (sayings_of words.now)) }
+    ensures { GivesTable result (spec.table_said (sayings_of Table words.now)) }
 {
     if let Some(usage) = refused_word(words) {
         return Err(usage);
     }
     let columns = columns_in(words)?;
-    let names = NameWords {
-        words,
-        has_columns: true,
-    };
+    let names = NameWords::among(Tool::Table, words);
     check_names(names)?;
     Ok(TablePlan {
         columns,

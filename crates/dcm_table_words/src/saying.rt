@@ -1,17 +1,29 @@
 // What the words of dcm2csv say, one after another.
 ghost use Rattle.std.specs.Prelude.{◌≡◌};
 ghost use Rattle.dcm_table_words.specs.Table as spec;
-ghost use Rattle.dcm_table_words.specs.Said.{said_as, AloneAt, SaidAt};
+ghost use Rattle.dcm_table_words.specs.Said.{said_as, SaidAt};
 
-/// The word after which a column comes.
+/// The word of dcm2csv after which a column comes.
 const COLUMN: &[u8] = b"-k";
+
+/// The word of dcmdump after which an element comes that is shown.
+const ELEMENT: &[u8] = b"+P";
+
+/// A tool that does many files by their names.
+#[derive(Clone, Copy, Debug, PartialEq, Eq)]
+pub enum Tool {
+    /// dcm2csv.
+    Table,
+    /// dcmdump.
+    Dump,
+}
 
 /// What a word says, or two words, an option and its value.
 #[derive(Clone, Copy, Debug, PartialEq, Eq)]
 pub enum Saying<'a> {
-    /// A column.
+    /// A column of a table, or an element that a dump shows.
     Column(&'a [u8]),
-    /// An option that wants a column, and no word comes after it.
+    /// An option that wants one, and no word comes after it.
     NoColumn,
     /// No header row.
     NoHeader,
@@ -46,25 +58,25 @@ fn word_says<'a>(word: &'a [u8]) -> Saying<'a>
     }
 }
 
-/// What the word at this place says where no option has a value, and the place after it.
-pub fn alone_at<'a>(words: &'a [&'a [u8]], at: usize) -> Option<(Saying<'a>, usize)>
-    ensures { AloneAt result at words.now }
+/// Whether the word after this one is its value, whatever it is.
+fn has_value(tool: Tool, word: &[u8]) -> bool
+    ensures { result ≡ spec.has_value tool word.now }
 {
-    if at >= words.len() {
-        return None;
+    match tool {
+        Tool::Table => word == COLUMN,
+        Tool::Dump => word == ELEMENT,
     }
-    Some((word_says(words[at]), at + 1))
 }
 
-/// What the words from this place on say first, and the place of the words after that.
-pub fn saying_at<'a>(words: &'a [&'a [u8]], at: usize) -> Option<(Saying<'a>, usize)>
-    ensures { SaidAt result at words.now }
+/// What the words of a tool from this place on say first, and the place of the words after that.
+pub fn saying_at<'a>(tool: Tool, words: &'a [&'a [u8]], at: usize) -> Option<(Saying<'a>, usize)>
+    ensures { SaidAt tool result at words.now }
 {
     if at >= words.len() {
         return None;
     }
     let word = words[at];
-    if word != COLUMN {
+    if !has_value(tool, word) {
         return Some((word_says(word), at + 1));
     }
     match words.get(at + 1) {

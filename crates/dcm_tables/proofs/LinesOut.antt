@@ -3,9 +3,10 @@ use Rattle.std.proofs.Common.{◌≡◌, ◌∙◌, ap, sym, subst, refl, ℕ, z
 use Rattle.std.specs.Prelude.{IsErr, flat_map, option_to_list, Some, None, is_some}
 use Rattle.std.specs.Io.KnownBytes.{append_known}
 use Rattle.std.proofs.lemmas.List.{append-nil}
+use Rattle.dcm_lemmas.proofs.Options.{known_nothing, known_twice}
 use Rattle.dcm_base.specs.declared.tag.Tag.{Tag}
 use Rattle.dcm_devices.specs.Device.{AppendsFront, Puts}
-use Rattle.dcm_devices.proofs.Writes.Puts.{append_known_none, append_known_twice, front_longer, puts_behind, puts_err}
+use Rattle.dcm_devices.proofs.Writes.Puts.{front_longer, puts_behind, puts_err}
 use Rattle.dcm_names.specs.NamedLines.{too_long_line}
 use Rattle.dcm_table.specs.Row.{reported, slot_at}
 use Rattle.dcm_table.specs.TableSink.{Slot}
@@ -20,13 +21,13 @@ pub record SoFar (old now : Option (List ℕ)) (all rest : List ℕ) : Type 0 wh
   pub grown : now ≡ append_known old front
 
 pub none_so_far : (old : Option (List ℕ)) (all : List ℕ) → SoFar old old all all
-none_so_far old all = record { front = []; whole = refl; grown = sym (append_known_none old) }
+none_so_far old all = record { front = []; whole = refl; grown = sym (known_nothing old) }
 
 pub more_so_far : {old mid : Option (List ℕ)} {all rest : List ℕ} (new : Option (List ℕ)) (line after : List ℕ) → SoFar old mid all rest → rest ≡ line ++ after → new ≡ append_known mid line → SoFar old new all after
 more_so_far {old} {mid} {all} {rest} new line after s is went = record {
   front = s.front ++ line;
   whole = s.whole ∙ ap (λ (bs : List ℕ). s.front ++ bs) is ∙ sym (append_assoc s.front line after);
-  grown = went ∙ ap (λ (k : Option (List ℕ)). append_known k line) s.grown ∙ append_known_twice old s.front line;
+  grown = went ∙ ap (λ (k : Option (List ℕ)). append_known k line) s.grown ∙ known_twice old s.front line;
 }
 
 pub failed_so_far : {T E : Type 0} {old mid : Option (List ℕ)} {all rest : List ℕ} (new : Option (List ℕ)) (line after : List ℕ) (r : Result T E) → SoFar old mid all rest → rest ≡ line ++ after → IsErr r → AppendsFront mid new line → Puts old new all r
@@ -38,10 +39,6 @@ failed_so_far {T} {E} {old} {mid} {all} {rest} new line after r s is failed fron
 pub all_so_far : {old now : Option (List ℕ)} {all rest : List ℕ} → SoFar old now all rest → rest ≡ [] → now ≡ append_known old all
 all_so_far {old} {now} {all} {rest} s none =
     s.grown ∙ ap (append_known old) (sym (s.whole ∙ ap (λ (bs : List ℕ). s.front ++ bs) none ∙ append-nil s.front))
-
--- two parts
-pub two_failed : {T E : Type 0} (old new : Option (List ℕ)) (first second : List ℕ) (r : Result T E) → IsErr r → AppendsFront old new first → Puts old new (first ++ second) r
-two_failed old new first second r failed front = puts_err old new (first ++ second) r failed (front_longer second front)
 
 -- ---- columns
 

@@ -11,6 +11,7 @@ use Rattle.dcm_base.specs.Tree.Tree.{Trees, no_tree}
 use Rattle.dcm_base.specs.Bytes.Spelling.{Spells}
 use Rattle.dcm_base.specs.File.MetaGroup.{AreMeta, group_place, is_element}
 use Rattle.dcm_base.specs.File.MetaReads.{PREFIX}
+use Rattle.dcm_head.proofs.MetaGroups.OneMeta.{long as size_of}
 use Rattle.dcm_head.specs.declared.meta_read.MetaEnd.{MetaEnd}
 use Rattle.dcm_head.specs.MetaReading.{Reading, at_start, meta_step, meta_finished, finished_from, group_ended, refusing, group_of, step_from, at_place}
 use Rattle.dcm_head.specs.MetaReading as reading
@@ -55,12 +56,6 @@ few_no_prefix bytes few e =
     let four : length PREFIX ≡ 4 = refl in
     let cut = length-take 4 (drop 128 bytes) in
     let left = length-drop 128 bytes in
-    omega arith
-
-size_of : (file preamble prefix rest : List ℕ) → file ≡ preamble ++ (prefix ++ rest) → length preamble ≡ 128 → length prefix ≡ 4 → 132 ≤ length file
-size_of file preamble prefix rest parts long four =
-    let all = ap length parts ∙ length-append preamble (prefix ++ rest) in
-    let inner = length-append prefix rest in
     omega arith
 
 -- ---- the group of a reading

@@ -11,6 +11,7 @@ use Rattle.dcm_base.specs.File.MetaReads.{Meta, MetaAnswer, MetaReads, begins, r
 use Rattle.dcm_base.specs.Reading.Reads.{Reads}
 use Rattle.dcm_base.specs.Reading.Stop.{Stop}
 use Rattle.dcm_base.proofs.DataSets.OneAnswer.{reads_once}
+use Rattle.dcm_cli.proofs.Runs.OneSource.{never_begins}
 use Rattle.dcm_head.specs.MetaReading.{meta_finished}
 use Rattle.dcm_head.proofs.HeadReading.State.{described}
 use Rattle.dcm_head.proofs.HeadReading.Answers.{told}
@@ -39,9 +40,6 @@ shows_once bytes e f (no_group none is) (of_group group place some reads) = absu
 shows_once bytes e f (of_group group place some reads) (no_group none is) = absurd (let no : false ≡ true = sym none ∙ some in cc)
 shows_once bytes e f (of_group g p some reads) (of_group g' p' some' reads') =
     (one_group e f 0 (drop 132 bytes) g g' p p' (from_start (drop 132 bytes) e g p reads) (from_start (drop 132 bytes) f g' p' reads')).elements_are
-
-never_begins : (f : Fault) (n : ℕ) (m : Meta) (group : List ℕ) (coding : Coding) → meta_refused f n ≡ begins m group coding → ⊥
-never_begins f n m group coding e = cc
 
 refused_alike : (f f' : Fault) (n n' : ℕ) → meta_refused f n ≡ meta_refused f' n' → (f ≡ f') × (n ≡ n')
 refused_alike f f' n n' e = (cc, cc)

@@ -1,5 +1,5 @@
 -- What was read of a file, and its row.
-use Rattle.std.proofs.Common.{◌≡◌, ◌∙◌, ap, sym, subst, refl, ℕ, ◌≤◌, List, [], ◌∷◌, ◌++◌, append_assoc, append-nil, length, length-append, drop, Bool, Some, None, inl, inr, arith}
+use Rattle.std.proofs.Common.{◌≡◌, ◌∙◌, ap, sym, subst, refl, ℕ, ◌≤◌, List, [], ◌++◌, append_assoc, append-nil, length, length-append, drop, Bool, Some, None, inl, inr, arith}
 use Rattle.std.specs.Prelude.{◌⊎◌, Ok}
 use Rattle.std.proofs.lemmas.List.{drop-append-le}
 use Rattle.dcm_base.specs.declared.tag.Tag.{Tag}
@@ -17,11 +17,12 @@ use Rattle.dcm_head.specs.declared.meta_read.MetaEnd.TheVariants as meta_ends
 use Rattle.dcm_head.specs.MetaReading.{Reading as HeadReading, group_of, meta_finished}
 use Rattle.dcm_stream.specs.Driven.{driven}
 use Rattle.dcm_stream.specs.Reading.{start_of}
+use Rattle.dcm_table.proofs.RowCells.{all_settle}
 use Rattle.dcm_table.specs.declared.ending.RowEnd.{RowEnd}
 use Rattle.dcm_table.specs.declared.ending.RowEnd.TheVariants as rows
 use Rattle.dcm_table.specs.Columns.{greatest_of}
-use Rattle.dcm_table.specs.Shown.{AllSettled, meta_slots, settled_slots, table_bar}
-use Rattle.dcm_table.specs.TableSink.{Slot, State, begun, next, writes, table_bar_of}
+use Rattle.dcm_table.specs.Shown.{meta_slots, settled_slots, table_bar}
+use Rattle.dcm_table.specs.TableSink.{State, begun, next, writes, table_bar_of}
 use Rattle.dcm_table.proofs.Inside.{at}
 use Rattle.dcm_table.proofs.MetaCells.{meta_fills, meta_settles}
 use Rattle.dcm_cli.specs.declared.ending.Ending.{Ending}
@@ -46,10 +47,6 @@ use Rattle.dcm_tables.proofs.MetaShown.{shown}
 use Rattle.dcm_tables.proofs.TableReads.{SetTaken, taken, not_taken, set_taken, set_undecided}
 
 -- ---- cells that are settled
-
-pub all_settle : (slots : List Slot) → AllSettled slots → settled_slots slots ≡ slots
-all_settle [] h = refl
-all_settle (c ∷ slots) h = (λ i. (c.0, h.0 i, c.2) ∷ all_settle slots h.1 i)
 
 -- ---- the head of a file
 

@@ -1,8 +1,8 @@
 -- Rows one after another: what names come to is one, and there is always one.
-use Rattle.std.proofs.Common.{◌≡◌, ◌∙◌, ap, sym, refl, ℕ, List, [], ◌∷◌, ◌++◌, append_assoc, arith, true, Option, Some, None}
-use Rattle.std.specs.Prelude.{max, Result, Ok, Err}
-use Rattle.std.proofs.lemmas.Int.{clamps}
+use Rattle.std.proofs.Common.{◌≡◌, ◌∙◌, ap, sym, refl, ℕ, List, [], ◌∷◌, ◌++◌, append_assoc, true, Option, Some, None}
+use Rattle.std.specs.Prelude.{Result, Ok, Err}
 use Rattle.std.proofs.lemmas.List.{append-nil}
+use Rattle.dcm_lemmas.proofs.Numbers.{max_assoc, max_none, none_max}
 use Rattle.dcm_base.specs.declared.tag.Tag.{Tag}
 use Rattle.dcm_files.specs.declared.memory.MemSystem.{MemSystem}
 use Rattle.dcm_names.specs.Names.{names_of}
@@ -15,15 +15,6 @@ use Rattle.dcm_tables.specs.TableInMemory.{Rows, no_rows, and_rows, AllCome, fil
 use Rattle.dcm_tables.proofs.OneRow.{one_row, some_row}
 
 -- ---- rows
-
-max_assoc : (a b c : ℕ) → max (max a b) c ≡ max a (max b c)
-max_assoc a b c = omega (arith, clamps)
-
-max_none : (a : ℕ) → max a 0 ≡ a
-max_none a = omega (arith, clamps)
-
-none_max : (a : ℕ) → max 0 a ≡ a
-none_max a = omega (arith, clamps)
 
 pub rows_assoc : (a b c : Rows) → and_rows (and_rows a b) c ≡ and_rows a (and_rows b c)
 rows_assoc a b c = λ i. record { parts = append_assoc a.parts b.parts c.parts i; lines = append_assoc a.lines b.lines c.lines i; status = max_assoc a.status b.status c.status i }

@@ -2,8 +2,11 @@
 use Rattle.std.proofs.Common.{◌≡◌, ◌∙◌, ap, sym, refl, ℕ, ◌-◌, ◌%◌, ◌≤◌, List, [], ◌∷◌, length, take, Bool, true, false, get_or, Some, None, arith, codes}
 use Rattle.std.specs.Prelude.{◌==◌, ◌&&◌, nat_le, slice_index, if◌then◌else◌}
 use Rattle.std.proofs.lemmas.Bool.Decides.{nat_tests}
-use Rattle.std.proofs.lemmas.List.{take_all, length-take}
+use Rattle.std.proofs.lemmas.List.{take_all}
 use Rattle.std.proofs.lemmas.Slice.Eq.{bytes_eq-Decides}
+use Rattle.dcm_deid.proofs.Trees.Instances.{text_pads}
+use Rattle.dcm_lemmas.proofs.Numbers.{equal_numbers}
+use Rattle.dcm_lemmas.proofs.Truth.{and_second}
 use Rattle.dcm_base.specs.declared.syntax.Syntax.{Syntax}
 use Rattle.dcm_base.specs.declared.tag.Tag.{Tag}
 use Rattle.dcm_base.specs.declared.vr.Vr.{Vr}
@@ -14,8 +17,8 @@ use Rattle.dcm_base.specs.Tables.Number.{AreBytes}
 use Rattle.dcm_base.specs.Tables.Representation.{is_text, pad}
 use Rattle.dcm_base.specs.Tables.Transfer.{is_pad, without_pads}
 use Rattle.dcm_head.proofs.MetaGroups.Transfers.{pads_taken}
+use Rattle.dcm_value.proofs.Displays.Wholes.{unpadded_within}
 use Rattle.dcm_value.proofs.ReadBack.Texts.{text_back, uid_back}
-use Rattle.dcm_value.proofs.ReadBack.Units.{bytes_take}
 use Rattle.dcm_text.specs.declared.sets.Sets.{Sets}
 use Rattle.dcm_table.specs.declared.quoted.TextForm.TheVariants.{AsItIs}
 use Rattle.dcm_table.specs.Cell.{too_long, whole}
@@ -23,22 +26,12 @@ use Rattle.dcm_table.specs.Parts.{some_bytes}
 use Rattle.dcm_table.specs.Quoted.{quoted}
 use Rattle.dcm_table.specs.Row.{cell_parts, is_quoted_text, value_parts}
 use Rattle.dcm_table.specs.Shown.{leaf_cell}
+use Rattle.dcm_value.proofs.ReadBack.Values.{unpadded_bytes}
 
 -- ---- pads
 
 abbrev drops_pad : Vr → List ℕ → Bool
 drops_pad vr v = length v % 2 == 0 && slice_index v (length v - 1) == pad vr
-
-first_of : (a b : Bool) → (a && b) ≡ true → b ≡ true
-first_of true b e = e
-first_of false b e = cc
-
-pad_is : (t : Bool) → is_pad (if t then 32 else 0) ≡ true
-pad_is true = refl
-pad_is false = refl
-
-is_same : (b c : ℕ) → (b == c) ≡ true → b ≡ c
-is_same b c e = grind (arith, nat_tests, e)
 
 -- the pad byte that a dump leaves out is left out of a cell
 pads_same : (vr : Vr) (b : ℕ) (v : List ℕ) → without_pads (unpadded vr (b ∷ v)) ≡ without_pads (b ∷ v)
@@ -47,23 +40,9 @@ pads_same vr b v = by_test (drops_pad vr (b ∷ v)) refl
     by_test : (t : Bool) → drops_pad vr (b ∷ v) ≡ t → without_pads (if t then take (length (b ∷ v) - 1) (b ∷ v) else (b ∷ v)) ≡ without_pads (b ∷ v)
     by_test false e = refl
     by_test true e =
-        let same : slice_index (b ∷ v) (length (b ∷ v) - 1) ≡ pad vr = is_same _ _ (first_of (length (b ∷ v) % 2 == 0) (slice_index (b ∷ v) (length (b ∷ v) - 1) == pad vr) e) in
-        let padded : is_pad (get_or (b ∷ v) (length (b ∷ v) - 1) 0) ≡ true = ap is_pad same ∙ pad_is (is_text vr) in
+        let same : slice_index (b ∷ v) (length (b ∷ v) - 1) ≡ pad vr = equal_numbers _ _ (and_second (length (b ∷ v) % 2 == 0) (slice_index (b ∷ v) (length (b ∷ v) - 1) == pad vr) e) in
+        let padded : is_pad (get_or (b ∷ v) (length (b ∷ v) - 1) 0) ≡ true = ap is_pad same ∙ text_pads (is_text vr) in
         sym (pads_taken (b ∷ v) (length (b ∷ v)) (omega arith) (omega arith) padded) ∙ ap without_pads (take_all (length (b ∷ v)) (b ∷ v) (omega arith))
-
-unpadded_bytes : (vr : Vr) (v : List ℕ) → AreBytes v → AreBytes (unpadded vr v)
-unpadded_bytes vr v h = by_test (drops_pad vr v)
-  where
-    by_test : (t : Bool) → AreBytes (if t then take (length v - 1) v else v)
-    by_test true = bytes_take (length v - 1) v h
-    by_test false = h
-
-unpadded_short : (vr : Vr) (v : List ℕ) → length (unpadded vr v) ≤ length v
-unpadded_short vr v = by_test (drops_pad vr v)
-  where
-    by_test : (t : Bool) → length (if t then take (length v - 1) v else v) ≤ length v
-    by_test true = let size = length-take (length v - 1) v in omega arith
-    by_test false = omega arith
 
 -- ---- what a text reads as
 
@@ -95,7 +74,7 @@ module _ (vr : Vr) (b : ℕ) (v : List ℕ) (bytes : AreBytes (b ∷ v)) (short 
   kept = unpadded vr (b ∷ v)
 
   kept_short : length kept ≤ 16384
-  kept_short = let less = unpadded_short vr (b ∷ v) in omega (arith, less, short)
+  kept_short = let less = unpadded_within vr (b ∷ v) in omega (arith, less, short)
 
   of_text : (if is_no_value (bracketed kept) then Some [] else (text_value (bracketed kept) >>= within_limit)) ≡ Some kept
   of_text = text_read kept (unpadded_bytes vr (b ∷ v) bytes) kept_short

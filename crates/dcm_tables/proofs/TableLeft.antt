@@ -2,12 +2,12 @@
 use Rattle.std.proofs.Common.{◌≡◌, ◌∙◌, ap, sym, subst, refl, ℕ, ◌≤◌, List, [], ◌∷◌, ◌++◌, append-nil, length-append, arith, map, Option, Some, None, Result, Ok, Err, ◌⊎◌, inl, inr}
 use Rattle.std.specs.Io.KnownBytes.{append_known}
 use Rattle.std.specs.declared.io.Error.{Error}
+use Rattle.dcm_lemmas.proofs.Options.{known_twice}
 use Rattle.dcm_base.specs.declared.tag.Tag.{Tag}
 use Rattle.dcm_devices.specs.declared.device.WriteFailed.{WriteFailed}
 use Rattle.dcm_devices.specs.declared.memory.MemOut.{MemOut}
 use Rattle.dcm_devices.specs.declared.memory.Measured.{Measured}
 use Rattle.dcm_devices.specs.Memory.{written, size, room_of}
-use Rattle.dcm_devices.proofs.Writes.Puts.{append_known_twice}
 use Rattle.dcm_files.specs.declared.memory.MemSystem.{MemSystem}
 use Rattle.dcm_files.specs.declared.opened.FileKind.{FileKind}
 use Rattle.dcm_files.specs.declared.opened.FileKind.TheVariants.{Other}
@@ -40,14 +40,14 @@ head_then : (header : List ℕ) (rows : Rows) (errors : Change) (from mid to : M
 head_then header rows errors from mid to (Ok status) went fine x = record {
   text = header ++ x.text;
   spelled = (header, x.text, refl, refl, x.spelled);
-  grown = x.grown ∙ ap (λ (h : Option (List ℕ)). append_known h x.text) went ∙ append_known_twice (held from) header x.text;
+  grown = x.grown ∙ ap (λ (h : Option (List ℕ)). append_known h x.text) went ∙ known_twice (held from) header x.text;
   fine = x.fine ∙ fine;
   told = x.told;
   status_is = x.status_is;
 }
 head_then header rows errors from mid to (Err failure) went fine x = record {
   less = header ++ x.less;
-  grown = x.grown ∙ ap (λ (h : Option (List ℕ)). append_known h x.less) went ∙ append_known_twice (held from) header x.less;
+  grown = x.grown ∙ ap (λ (h : Option (List ℕ)). append_known h x.less) went ∙ known_twice (held from) header x.less;
   fewer = let l = length-append header x.less in let f = x.fewer in omega (arith, l, f);
   failed = x.failed;
 }
@@ -163,7 +163,7 @@ module _ (s new : MemSystem) (errors new_errors : MemOut) (status : ℕ) where
           before = out.device.out;
           after = output.out;
           room_is = is;
-          output_is = ap (λ (z : MemSystem). z.written) closes;
+          output_is = ap (λ (z : MemSystem). z.written) closes.call.1;
           bytes_are = grew (size out.device.out) (size output.out) (written out.device.out) (written output.out) x.text x.grown;
         } in
         inl (subst LeftTable (sym c.2) (leave (spec.tabled t c.0) (x.text, x.spelled, took) x.told x.status_is))

@@ -2,11 +2,12 @@
 use Rattle.std.proofs.Common.{◌≡◌, ◌∙◌, ap, sym, subst, refl, ℕ, ◌+◌, ◌<◌, ◌≤◌, List, [], ◌∷◌, ◌++◌, length, length-append, arith, true, false, Option, Some, None, Result, Ok, Err}
 use Rattle.std.specs.Prelude.{max}
 use Rattle.std.specs.Io.KnownBytes.{append_known}
+use Rattle.dcm_lemmas.proofs.Numbers.{added_to_nothing, max_same}
+use Rattle.dcm_lemmas.proofs.Options.{known_nothing, known_twice}
 use Rattle.dcm_base.specs.declared.tag.Tag.{Tag}
 use Rattle.dcm_devices.specs.declared.device.WriteFailed.{WriteFailed}
 use Rattle.dcm_devices.specs.declared.memory.MemIn.{MemIn}
 use Rattle.dcm_devices.specs.declared.memory.Measured.{Measured}
-use Rattle.dcm_devices.proofs.Writes.Puts.{append_known_none, append_known_twice}
 use Rattle.dcm_files.specs.declared.memory.MemSystem.{MemSystem}
 use Rattle.dcm_files.specs.Memory.{may_do}
 use Rattle.dcm_names.specs.Names.{can_be_opened}
@@ -46,11 +47,8 @@ text_most (p ∷ parts) text (first, rest, is, one, more) =
     let h = ap length is ∙ length-append first rest in
     omega (arith, a, b, h)
 
-plus_none : (n : ℕ) → n ≡ 0 + n
-plus_none n = omega arith
-
 pub most_both : (ps qs : List Part) → most_of (ps ++ qs) ≡ most_of ps + most_of qs
-most_both [] qs = plus_none (most_of qs)
+most_both [] qs = added_to_nothing (most_of qs)
 most_both (p ∷ ps) qs = let h = most_both ps qs in omega (arith, h)
 
 -- ---- what was done for rows
@@ -75,14 +73,11 @@ abbrev pub Left : Rows → Change → (from to : Measured) → Result ℕ WriteF
 Left rows errors from to (Ok status) = All rows errors from to status
 Left rows errors from to (Err failure) = Less rows from to
 
-pub max_same : (a b c d m : ℕ) → m ≡ max a c → a ≡ b → c ≡ d → m ≡ max b d
-max_same a b c d m e f g = e ∙ (λ i. max (f i) (g i))
-
 pub all_then : (a b : Rows) (whole first second : Change) (from mid to : Measured) (m n k : ℕ) → All a first from mid n → All b second mid to k → Follows whole first second → m ≡ max n k → All (and_rows a b) whole from to m
 all_then a b whole first second from mid to m n k x y follows is = record {
   text = x.text ++ y.text;
   spelled = spells_both a.parts b.parts x.text y.text x.spelled y.spelled;
-  grown = y.grown ∙ ap (λ (h : Option (List ℕ)). append_known h y.text) x.grown ∙ append_known_twice (held from) x.text y.text;
+  grown = y.grown ∙ ap (λ (h : Option (List ℕ)). append_known h y.text) x.grown ∙ known_twice (held from) x.text y.text;
   fine = y.fine ∙ x.fine;
   told = told_then whole first second follows a.lines b.lines x.told y.told;
   status_is = max_same n a.status k b.status m is x.status_is y.status_is;
@@ -91,7 +86,7 @@ all_then a b whole first second from mid to m n k x y follows is = record {
 pub less_then : (a b c : Rows) (first : Change) (from mid to : Measured) (n : ℕ) → All a first from mid n → Less b mid to → Less (and_rows a (and_rows b c)) from to
 less_then a b c first from mid to n x y = record {
   less = x.text ++ y.less;
-  grown = y.grown ∙ ap (λ (h : Option (List ℕ)). append_known h y.less) x.grown ∙ append_known_twice (held from) x.text y.less;
+  grown = y.grown ∙ ap (λ (h : Option (List ℕ)). append_known h y.less) x.grown ∙ known_twice (held from) x.text y.less;
   fewer =
       let t = text_most a.parts x.text x.spelled in
       let l = length-append x.text y.less in
@@ -142,7 +137,7 @@ pub unopened_left : (name : List ℕ) (rows : Rows) (errors : Change) (from to :
 unopened_left name rows errors from to result none line same is =
     subst (λ (z : Rows). Left z errors from to result) (sym none)
     (subst (Left (unopened name) errors from to) (sym is)
-    (record { text = []; spelled = refl; grown = ap held same ∙ sym (append_known_none (held from)); fine = ap (λ (m : Measured). m.out.failed) same; told = told_of errors _ line; status_is = refl }))
+    (record { text = []; spelled = refl; grown = ap held same ∙ sym (known_nothing (held from)); fine = ap (λ (m : Measured). m.out.failed) same; told = told_of errors _ line; status_is = refl }))
 
 module _ (s : MemSystem) (columns : List Tag) (form : TextForm) where
   pub at_left : (name path : List ℕ) (rows : Rows) (errors : Change) (from to : Measured) (result : Result ℕ WriteFailed) (after : MemSystem)
@@ -161,7 +156,7 @@ module _ (s : MemSystem) (columns : List Tag) (form : TextForm) where
 pub nothing_left : (errors : Change) (from to : Measured) (rows : Rows) (status : ℕ) → Reports errors [] → to ≡ from → rows ≡ no_rows → status ≡ DONE → All rows errors from to status
 nothing_left errors from to rows status line same none is =
     subst (λ (z : Rows). All z errors from to status) (sym none)
-    (record { text = []; spelled = refl; grown = ap held same ∙ sym (append_known_none (held from)); fine = ap (λ (m : Measured). m.out.failed) same; told = told_of errors _ line; status_is = is })
+    (record { text = []; spelled = refl; grown = ap held same ∙ sym (known_nothing (held from)); fine = ap (λ (m : Measured). m.out.failed) same; told = told_of errors _ line; status_is = is })
 
 -- the last of several
 last_rows : (first later end rows : Rows) → rows ≡ and_rows first later → later ≡ and_rows end no_rows → rows ≡ and_rows first end

@@ -4,6 +4,7 @@ use Rattle.std.specs.Prelude.{fold, ◌⊎◌}
 use Rattle.std.proofs.Math.Path.{fun_ext}
 use Rattle.std.proofs.lemmas.List.{append-nil}
 use Rattle.std.proofs.lemmas.List.Sums.{fold-append}
+use Rattle.dcm_lemmas.proofs.Lists.{no_front as some_more}
 use Rattle.dcm_base.specs.declared.tag.Tag.{Tag}
 use Rattle.dcm_base.specs.declared.vr.Vr.{Vr}
 use Rattle.dcm_base.specs.declared.length.Length.{Length}
@@ -71,10 +72,6 @@ module _ (bars other : List Atom → HeadBar) (s : Syntax) (start : ℕ) (agree 
 nothing_out : (t : State) (atoms : List Atom) → outputs next writes t atoms ≡ []
 nothing_out t [] = refl
 nothing_out t (a ∷ atoms) = nothing_out (next t a) atoms
-
-some_more : (front : List ℕ) (b : ℕ) (rest : List ℕ) → [] ≡ front ++ (b ∷ rest) → ⊥
-some_more [] b rest e = cc
-some_more (x ∷ front) b rest e = cc
 
 no_front : (held holds : Option (List ℕ)) (bytes : List ℕ) → bytes ≡ [] → AppendsFront held holds bytes → ⊥
 no_front held holds bytes none h = some_more h.front h.next h.rest (sym none ∙ h.whole)
@@ -174,7 +171,7 @@ module _ (g : Tag) (slots : List Slot) (settles : AllSettled slots) (s : Syntax)
       let r = table_refuses read stop.fault stop.at halt in
       let reads = r.reads rest in
       taken r.f (refused stop.fault stop.at) reads (cells_of (read ++ rest) r.f (refused stop.fault stop.at) t reads (state ∙ r.state)) (ap set_end is)
-  set_taken read rest t ending (unread none is e) = not_taken none (is ∙ ap (λ (n : ℕ). Unread (n + length read)) (starts_at start))
+  set_taken read rest t ending (unread none is state e) = not_taken none (is ∙ ap (λ (n : ℕ). Unread (n + length read)) (starts_at start))
   set_taken read rest t ending (unwritten is beginning) = absurd (no_front None None _ (written_none read) beginning)
   set_taken read rest t ending (end_unwritten over none is beginning) =
       absurd (no_front None None _

@@ -2,6 +2,7 @@
 -- these it is known which bytes they said they gave or took.
 use Rattle.std.specs.Prelude.{◌≡◌, ℕ, List, [], false, Option, None, Some, Result, Ok, Err}
 use Rattle.dcm_devices.specs.Device.{Notes, TakesFrom, Gave}
+use Rattle.dcm_devices.specs.StdDevice.{IsOfBytes}
 use Rattle.dcm_devices.specs.Writing.{Writer}
 use Rattle.dcm_devices.specs.declared.std_device.Std.{Std}
 use Rattle.dcm_files.specs.Call.{Call}
@@ -23,7 +24,7 @@ std_reader tells = record {
   has_failed = λ s. s.failed;
   remaining = λ s. None;
   gets = λ before bytes after. Notes before.passed.bytes after.passed.bytes bytes
-      × TakesFrom (tells before.inner) (tells after.inner) bytes;
+      × TakesFrom (tells before.inner) (tells after.inner) bytes × IsOfBytes bytes;
 }
 
 abbrev pub std_writer : {T : Type 0} → Writer (Std T)

@@ -8,7 +8,7 @@ use Rattle.dcm_devices.specs.Writing.{Writer}
 use Rattle.dcm_files.specs.declared.opened.Opened.{Opened}
 use Rattle.dcm_files.specs.declared.opened.Unopened.{Unopened}
 use Rattle.dcm_files.specs.declared.opened.Unopened.TheVariants.{Output}
-use Rattle.dcm_files.specs.Devices.{MayDo, IsCause}
+use Rattle.dcm_files.specs.Devices.{MayDo, Closes, IsCause}
 use Rattle.dcm_words.specs.Topics.{asked}
 use Rattle.dcm_table.specs.declared.column.Column.{Column}
 use Rattle.dcm_table.specs.declared.column.Header.TheVariants.{Keyword}
@@ -80,7 +80,7 @@ pub data MakesTable {S I O : Type 0} (may : MayDo S I O) (w : Writer O) (Writes 
       → IsCause (error_kind cause) Output u → Reports errors (unopened_line u) → status ≡ unopened_status u
       → MakesTable may w Writes errors before status after
   made : (o : Opened O) (output : O) (has_output written : S) → may.stdout before (Ok o) has_output
-      → PutsTable w Writes errors o.device output has_output status written → may.closes written output after
+      → PutsTable w Writes errors o.device output has_output status written → Closes may written output after
       → MakesTable may w Writes errors before status after
 
 -- ---- words

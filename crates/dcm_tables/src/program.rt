@@ -152,7 +152,7 @@ fn make_table<S: System, E: DeviceOut>(
     };
     let mut out = Watched::new(output.device);
     let status = put_table(plan, &columns, system, &mut cells, &mut out, errors);
-    system.close(out.into_device());
+    let _ = system.close(out.into_device());
     status
 }
 

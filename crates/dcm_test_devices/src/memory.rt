@@ -306,6 +306,14 @@ impl<'a> System for Memory<'a> {
         self.output()
     }
 
+    fn seize(&mut self, _path: &str) -> io::Result<bool> {
+        Ok(true)
+    }
+
+    fn holds(&mut self, _path: &str) -> bool {
+        true
+    }
+
     fn keep_mode(&mut self, _from: &str, _to: &str) -> io::Result<()> {
         Ok(())
     }
@@ -318,8 +326,9 @@ impl<'a> System for Memory<'a> {
         Ok(())
     }
 
-    fn close(&mut self, output: Std<FailWriter<'a>>) {
+    fn close(&mut self, output: Std<FailWriter<'a>>) -> io::Result<()> {
         self.written = Some(output.into_inner());
+        Ok(())
     }
 }
 
@@ -342,7 +351,11 @@ impl<'a> Folders for Memory<'a> {
         Ok(None)
     }
 
-    fn make_folder(&mut self, _path: &str) -> io::Result<()> {
+    fn mode_in(&mut self, _folder: &[u8], _name: &[u8]) -> io::Result<u32> {
+        Err(io::Error::from(ErrorKind::NotFound))
+    }
+
+    fn make_folder(&mut self, _path: &str, _mode: u32) -> io::Result<()> {
         Ok(())
     }
 

@@ -38,7 +38,7 @@ pub const EMPTY: Row = Row {
 /// The header of a dump.
 pub fn header_of(start: Start) -> &'static [u8] {
     match start {
-        Start::Nothing | Start::Prefix => b"",
+        Start::Nothing | Start::Prefix | Start::WithoutIdentity => b"",
         Start::ExplicitLittle => EXPLICIT_LITTLE_HEADER,
         Start::Implicit => IMPLICIT_HEADER,
         Start::Big => BIG_HEADER,
@@ -46,10 +46,24 @@ pub fn header_of(start: Start) -> &'static [u8] {
     }
 }
 
+/// The header of a dump by characters.
+fn header_by_characters(start: Start) -> &'static [u8] {
+    match start {
+        Start::Nothing | Start::Prefix | Start::WithoutIdentity | Start::Jpeg => b"",
+        Start::ExplicitLittle => EXPLICIT_LITTLE_BY_CHARACTERS,
+        Start::Implicit => IMPLICIT_BY_CHARACTERS,
+        Start::Big => BIG_BY_CHARACTERS,
+    }
+}
+
 /// What the output of a row begins with: the header of a dump, or the head of a file.
 pub fn front_of(row: &Row) -> &'static [u8] {
-    if row.words.starts_with("dcmdump") {
+    if row.words.starts_with("dcmdump +u8") {
+        header_by_characters(row.header)
+    } else if row.words.starts_with("dcmdump") {
         header_of(row.header)
+    } else if row.words.starts_with("dcmdeid") {
+        row.header.without_identity()
     } else {
         row.header.bytes()
     }
@@ -66,6 +80,15 @@ const BIG_HEADER: &[u8] =
 
 const JPEG_HEADER: &[u8] =
     b"# Dicom-File-Format\n\n# Dicom-Meta-Information-Header\n# Used TransferSyntax: LittleEndianExplicit\n(0002,0000) UL 30                                       #   4, 1 FileMetaInformationGroupLength\n(0002,0010) UI =JPEGBaseline                            #  22, 1 TransferSyntaxUID\n\n# Dicom-Data-Set\n# Used TransferSyntax: JPEGBaseline\n";
+
+const EXPLICIT_LITTLE_BY_CHARACTERS: &[u8] =
+    b"# Dicom-File-Format (texts in UTF-8)\n\n# Dicom-Meta-Information-Header\n# Used TransferSyntax: LittleEndianExplicit\n(0002,0000) UL 28                                       #   4, 1 FileMetaInformationGroupLength\n(0002,0010) UI =LittleEndianExplicit                    #  20, 1 TransferSyntaxUID\n\n# Dicom-Data-Set\n# Used TransferSyntax: LittleEndianExplicit\n";
+
+const IMPLICIT_BY_CHARACTERS: &[u8] =
+    b"# Dicom-File-Format (texts in UTF-8)\n\n# Dicom-Meta-Information-Header\n# Used TransferSyntax: LittleEndianExplicit\n(0002,0000) UL 26                                       #   4, 1 FileMetaInformationGroupLength\n(0002,0010) UI =LittleEndianImplicit                    #  18, 1 TransferSyntaxUID\n\n# Dicom-Data-Set\n# Used TransferSyntax: LittleEndianImplicit\n";
+
+const BIG_BY_CHARACTERS: &[u8] =
+    b"# Dicom-File-Format (texts in UTF-8)\n\n# Dicom-Meta-Information-Header\n# Used TransferSyntax: LittleEndianExplicit\n(0002,0000) UL 28                                       #   4, 1 FileMetaInformationGroupLength\n(0002,0010) UI =BigEndianExplicit                       #  20, 1 TransferSyntaxUID\n\n# Dicom-Data-Set\n# Used TransferSyntax: BigEndianExplicit\n";
 
 /// The rows of tables.
 pub fn rows_of(alloc: Global, tables: &[&'static [Row]]) -> Result<Vec<Row>, AllocError> {

@@ -22,14 +22,22 @@ pub struct TreeDevices {
     pub files: usize,
     /// How many files are made before there is no memory for another.
     pub memory: usize,
+    /// How many files are closed before the closing of one fails.
+    pub closings: usize,
     /// The bits that modes of new files do not get.
     pub umask: u32,
     /// Whether a file may get a second name.
     pub has_links: bool,
+    /// Whether a file may be locked.
+    pub has_locks: bool,
+    /// The path of a file that another run has locked.
+    pub busy: &'static str,
     /// A path that cannot be opened.
     pub locked: &'static str,
     /// The path of a folder whose listing fails after its last name.
     pub unlisted: &'static str,
+    /// The path of a folder whose mode cannot be looked at.
+    pub unseen: &'static [u8],
 }
 
 /// Devices that do not fail.
@@ -39,10 +47,14 @@ pub const SOUND: TreeDevices = TreeDevices {
     disk: ALL,
     files: ALL,
     memory: ALL,
+    closings: ALL,
     umask: 0o022,
     has_links: true,
+    has_locks: true,
+    busy: "",
     locked: "",
     unlisted: "",
+    unseen: b"",
 };
 
 /// A reader of std that gives at most so many bytes a call.

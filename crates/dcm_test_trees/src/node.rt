@@ -6,8 +6,8 @@ use std::alloc::{AllocError, Global};
 /// The device that all of a tree is on.
 pub(crate) const DEVICE: u64 = 1;
 
-/// The mode of what is no regular file.
-const MODE: u32 = 0o755;
+/// The mode of a folder where none is said, and of what is neither a folder nor a regular file.
+pub(crate) const MODE: u32 = 0o755;
 
 /// Who may read, write and run a file.
 const MODE_BITS: u32 = 0o777;
@@ -15,8 +15,8 @@ const MODE_BITS: u32 = 0o777;
 /// What a name stands for. Two names may stand for one.
 #[derive(Drop)]
 pub enum Node {
-    /// A folder, and the number of the one that it is in.
-    Folder(usize),
+    /// A folder: the number of the one that it is in, and its mode.
+    Folder(usize, u32),
     /// A regular file: its bytes, and its mode.
     File(Vec<u8>, u32),
     /// A regular file of which the first read fails.
@@ -29,8 +29,8 @@ pub enum Node {
 
 impl Node {
     /// A folder that is put into a tree.
-    pub fn folder() -> Self {
-        Node::Folder(ROOT)
+    pub fn folder(mode: u32) -> Self {
+        Node::Folder(ROOT, mode)
     }
 
     /// A file.
@@ -45,7 +45,7 @@ impl Node {
 
     /// Whether it is a folder.
     pub(crate) fn is_folder(&self) -> bool {
-        matches!(self, Node::Folder(_))
+        matches!(self, Node::Folder(_, _))
     }
 
     /// What looking at it finds, by its number.
@@ -61,7 +61,7 @@ impl Node {
     /// What kind of thing it is.
     fn kind(&self) -> FoundKind {
         match self {
-            Node::Folder(_) => FoundKind::Folder,
+            Node::Folder(_, _) => FoundKind::Folder,
             Node::File(_, _) | Node::Broken => FoundKind::File,
             Node::Link(_) | Node::Pipe => FoundKind::Other,
         }
@@ -70,15 +70,15 @@ impl Node {
     /// Its mode.
     fn mode(&self) -> u32 {
         match self {
-            Node::File(_, mode) => *mode,
+            Node::Folder(_, mode) | Node::File(_, mode) => *mode,
             _ => MODE,
         }
     }
 
-    /// Whether another is of the same kind, with the same bytes and the same mode, or leads to the same path.
+    /// Whether another is of the same kind, with the same mode and bytes, or leads to the same path.
     pub(crate) fn is_like(&self, other: &Node) -> bool {
         match (self, other) {
-            (Node::Folder(_), Node::Folder(_)) => true,
+            (Node::Folder(_, mode), Node::Folder(_, other)) => mode == other,
             (Node::File(bytes, mode), Node::File(others, other)) => {
                 bytes.as_slice() == others.as_slice() && mode == other
             }

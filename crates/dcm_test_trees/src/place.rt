@@ -150,7 +150,7 @@ impl Way {
             return Err(io::Error::from(ErrorKind::NotFound));
         };
         match tree.node(node) {
-            Some(Node::Folder(_)) => Ok(Step::Further(self.within(tree, node, behind)?)),
+            Some(Node::Folder(_, _)) => Ok(Step::Further(self.within(tree, node, behind)?)),
             _ => Err(io::Error::from(ErrorKind::NotADirectory)),
         }
     }

@@ -27,6 +27,8 @@ pub struct MemoryTree {
     stdin: Vec<u8>,
     devices: TreeDevices,
     written: Vec<u8>,
+    /// The number of the file that is held, if there is one.
+    held: Option<usize>,
     /// How many inputs, outputs and folders are open.
     pub open: usize,
 }
@@ -60,6 +62,7 @@ impl MemoryTree {
             stdin,
             devices,
             written: Vec::new(alloc),
+            held: None,
             open: 0,
         }
     }
@@ -107,10 +110,22 @@ impl MemoryTree {
         self.place(path, links)?.node.ok_or_else(missing)
     }
 
+    /// The mode of a folder at a path.
+    fn folder_mode(&self, path: &[u8], links: Links) -> io::Result<u32> {
+        if path == self.devices.unseen {
+            return Err(locked());
+        }
+        let number = place_at(&self.tree, path, links)?.node.ok_or_else(missing)?;
+        match self.tree.node(number) {
+            Some(Node::Folder(_, mode)) => Ok(*mode & MODE_BITS),
+            _ => Err(io::Error::from(ErrorKind::NotADirectory)),
+        }
+    }
+
     /// What a file is opened as.
     fn kind(&self, number: usize) -> FileKind {
         match self.tree.node(number) {
-            Some(Node::Folder(_)) => FileKind::Directory,
+            Some(Node::Folder(_, _)) => FileKind::Directory,
             Some(Node::File(bytes, _)) => FileKind::Regular {
                 device: DEVICE,
                 number: number as u64,
@@ -156,6 +171,7 @@ impl MemoryTree {
         let mode = mode & MODE_BITS & !self.devices.umask;
         let file = Node::File(Vec::new(self.alloc), mode);
         let number = self.tree.add(place.folder, place.text.as_slice(), file)?;
+        self.held = Some(number);
         Ok(self.output(number))
     }
 
@@ -269,6 +285,25 @@ impl System for MemoryTree {
         self.create_as(path, USUAL_MODE)
     }
 
+    fn seize(&mut self, path: &str) -> io::Result<bool> {
+        let number = self.opened_number(path)?;
+        if !self.devices.has_locks {
+            return Err(io::Error::from(ErrorKind::Unsupported));
+        }
+        if path == self.devices.busy {
+            return Ok(false);
+        }
+        self.held = Some(number);
+        Ok(true)
+    }
+
+    fn holds(&mut self, path: &str) -> bool {
+        match self.number(path, Links::Kept) {
+            Ok(number) => self.held == Some(number),
+            Err(_) => false,
+        }
+    }
+
     fn keep_mode(&mut self, from: &str, to: &str) -> io::Result<()> {
         let Ok(number) = self.number(from, Links::Followed) else {
             return Ok(());
@@ -291,6 +326,7 @@ impl System for MemoryTree {
         if target.node != Some(number) {
             self.move_name(&place, &target, number)?;
         }
+        self.held = None;
         Ok(())
     }
 
@@ -298,16 +334,23 @@ impl System for MemoryTree {
         self.file_number(path)?;
         let place = self.place(path, Links::Kept)?;
         self.tree.remove_name(place.folder, place.text.as_slice());
+        self.held = None;
         Ok(())
     }
 
-    fn close(&mut self, output: Std<TreeWriter>) {
+    fn close(&mut self, output: Std<TreeWriter>) -> io::Result<()> {
         self.uncount();
         let writer = output.into_inner();
-        match writer.file {
-            Some(number) => self.store(number, writer.bytes),
-            None => self.written = writer.bytes,
+        let Some(number) = writer.file else {
+            self.written = writer.bytes;
+            return Ok(());
+        };
+        self.store(number, writer.bytes);
+        if self.devices.closings == 0 {
+            return Err(io::Error::from(ErrorKind::StorageFull));
         }
+        self.devices.closings -= 1;
+        Ok(())
     }
 }
 
@@ -343,9 +386,19 @@ impl Folders for MemoryTree {
         }
     }
 
-    fn make_folder(&mut self, path: &str) -> io::Result<()> {
+    fn mode_in(&mut self, folder: &[u8], name: &[u8]) -> io::Result<u32> {
+        if name.is_empty() {
+            return self.folder_mode(folder, Links::Followed);
+        }
+        let mut path = folder.to_vec(self.alloc)?;
+        path.push(b'/')?;
+        path.extend_from_slice(name)?;
+        self.folder_mode(path.as_slice(), Links::Kept)
+    }
+
+    fn make_folder(&mut self, path: &str, mode: u32) -> io::Result<()> {
         let place = self.free_place(path)?;
-        let folder = Node::Folder(place.folder);
+        let folder = Node::Folder(place.folder, mode & MODE_BITS & !self.devices.umask);
         self.tree.add(place.folder, place.text.as_slice(), folder)?;
         Ok(())
     }

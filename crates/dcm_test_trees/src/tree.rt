@@ -1,5 +1,5 @@
 // A tree of folders.
-use super::node::Node;
+use super::node::{MODE, Node};
 use super::place::split_part;
 use std::alloc::{AllocError, Global};
 
@@ -39,8 +39,8 @@ impl Tree {
             names: Vec::new(alloc),
             nodes: Vec::new(alloc),
         };
-        tree.nodes.push(Node::Folder(ROOT))?;
-        tree.add(ROOT, CURRENT_NAME, Node::Folder(ROOT))?;
+        tree.nodes.push(Node::folder(MODE))?;
+        tree.add(ROOT, CURRENT_NAME, Node::folder(MODE))?;
         Ok(tree)
     }
 
@@ -60,7 +60,7 @@ impl Tree {
     /// The folder that a folder is in.
     pub(crate) fn parent(&self, folder: usize) -> usize {
         match self.nodes.get(folder) {
-            Some(Node::Folder(parent)) => *parent,
+            Some(Node::Folder(parent, _)) => *parent,
             _ => ROOT,
         }
     }
@@ -115,11 +115,11 @@ impl Tree {
         }
     }
 
-    /// The folder of a name of a folder, made where nothing is there.
-    fn have_folder(&mut self, folder: usize, text: &[u8]) -> Result<usize, AllocError> {
+    /// The folder of a name of a folder, made with this mode where nothing is there.
+    fn have_folder(&mut self, folder: usize, text: &[u8], mode: u32) -> Result<usize, AllocError> {
         match self.child(folder, text) {
             Some(node) => Ok(node),
-            None => self.add(folder, text, Node::Folder(folder)),
+            None => self.add(folder, text, Node::Folder(folder, mode)),
         }
     }
 
@@ -131,14 +131,13 @@ impl Tree {
             if rest.is_empty() {
                 break;
             }
-            folder = self.have_folder(folder, part)?;
+            folder = self.have_folder(folder, part, MODE)?;
             (part, rest) = split_part(rest);
         }
-        if node.is_folder() {
-            self.have_folder(folder, part)?;
-        } else {
-            self.add(folder, part, node)?;
-        }
+        match node {
+            Node::Folder(_, mode) => self.have_folder(folder, part, mode)?,
+            other => self.add(folder, part, other)?,
+        };
         Ok(())
     }
 

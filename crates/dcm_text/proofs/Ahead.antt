@@ -12,6 +12,7 @@ use Rattle.std.proofs.lemmas.List.{length-append, take_rest}
 use Rattle.std.proofs.lemmas.Str.{encode_ascii}
 use lib.Dec.{ltb}
 use lib.Utf8.{scalar}
+use Rattle.dcm_lemmas.proofs.Truth.{not_true}
 use Rattle.dcm_text.specs.declared.set.Halves.{Halves}
 use Rattle.dcm_text.specs.declared.set.TextKind.{TextKind}
 use Rattle.dcm_text.specs.declared.sets.Sets.{Sets}
@@ -24,10 +25,6 @@ use Rattle.dcm_text.specs.Laws.{IsUtf8InForce, encoded}
 use Rattle.dcm_text.specs.Shown.{is_dumped, is_hidden}
 use Rattle.dcm_text.proofs.Gaps.{of_ascii}
 use Rattle.dcm_text.proofs.Utf8.{number_of_two, number_of_three, chars_ahead}
-
-not_true : (t : Bool) → not t ≡ true → t ≡ false
-not_true true e = sym e
-not_true false e = refl
 
 -- ---- one character
 

@@ -1,11 +1,12 @@
 -- How many of eight bytes are ASCII that is shown as it is, by one mask.
 use Rattle.std.proofs.Common.{◌≡◌, ◌≤◌, ℕ, suc, ◌+◌, ◌%◌, ◌^◌, ◌&&◌, Bool, true, false, not, cond, List, [], ◌∷◌, map, length, take, refl, ap, ap₂, ◌∙◌, arith, Fits, w8}
-use Rattle.std.specs.List.{list_all, prefix_len}
-use Rattle.std.proofs.lemmas.Bool.{agree_below, agree_below_at}
+use Rattle.std.specs.List.{list_all}
+use Rattle.std.proofs.lemmas.Bool.{agree_below}
 use Rattle.std.proofs.lemmas.Simd.{map-map, mask_l-mod, first_set_mask_l}
 use Rattle.std.proofs.lemmas.List.{length-map}
 use Rattle.std.proofs.lemmas.List.Sums.{prefix_len-le-length}
 use lib.Lanes.{zip2, mask_l, top, Each1}
+use Rattle.dcm_lemmas.proofs.Lists.{same_prefix}
 use Rattle.dcm_text.specs.Ascii.{is_ascii_byte, ascii_size, lowest_of_eight}
 
 zip2-map : (h : ℕ → ℕ → ℕ) (f g : ℕ → ℕ) (xs : List ℕ) → zip2 h (map f xs) (map g xs) ≡ map (λ x. h (f x) (g x)) xs
@@ -15,13 +16,6 @@ zip2-map h f g (x ∷ xs) = ap (λ r. h (f x) (g x) ∷ r) (zip2-map h f g xs)
 -- an operation on lanes that were computed lane by lane from v
 pub joined : (h : ℕ → ℕ → ℕ) (f g : ℕ → ℕ) (v : List ℕ) {a b : List ℕ} → a ≡ map f v → b ≡ map g v → zip2 h a b ≡ map (λ x. h (f x) (g x)) v
 joined h f g v p q = ap₂ (zip2 h) p q ∙ zip2-map h f g v
-
--- tests that agree on each byte find as many in front
-same_prefix : (p q : ℕ → Bool) (v : List ℕ) → agree_below p q 256 ≡ true → Each1 (Fits w8) v → prefix_len p v ≡ prefix_len q v
-same_prefix p q [] all fits = refl
-same_prefix p q (x ∷ xs) all fits =
-    ap (λ (t : Bool). cond t (1 + prefix_len p xs) 0) (agree_below_at p q 256 x all fits.0.fits)
-    ∙ ap (λ (n : ℕ). cond (q x) (1 + n) 0) (same_prefix p q xs all fits.1)
 
 module _ (v z : List ℕ) (r : ℕ) (long : length v ≡ 8) (fits : Each1 (Fits w8) v)
     (found : r ≡ lowest_of_eight (mask_l (map (top 7) z) % 2 ^ 64)) (f : ℕ → ℕ) (lanes : z ≡ map f v)

@@ -1,9 +1,10 @@
 -- What a text begins with, where it is read directly.
 use Rattle.std.proofs.Common.{◌≡◌, ℕ, ◌+◌, ◌≤◌, Bool, true, false, cond, List, [], ◌∷◌, length, take, drop, Option, Some}
-use Rattle.std.proofs.Common.{refl, sym, ap, ◌∙◌, arith}
+use Rattle.std.proofs.Common.{refl, ap, ◌∙◌, arith}
 use Rattle.std.specs.Prelude.{nat_lt, ◌==◌, ◌&&◌, not, slice_index_or}
 use Rattle.std.proofs.lemmas.Bool.{cond-true, cond-false, and_parts}
 use Rattle.std.proofs.lemmas.Bool.Decides.{nat_tests}
+use Rattle.dcm_lemmas.proofs.Truth.{not_true}
 use Rattle.dcm_text.specs.declared.set.Halves.{Halves}
 use Rattle.dcm_text.specs.declared.set.Left.{Left}
 use Rattle.dcm_text.specs.declared.set.Left.TheVariants as left
@@ -28,10 +29,6 @@ use Rattle.dcm_text.specs.Sets.{has}
 use Rattle.dcm_text.specs.Quick.{IsFirst, Designates, designated_left, read}
 use Rattle.dcm_text.proofs.Utf8.{between, fits_one, fits_two, ranges_two, ranges_three, second_three}
 
-not_true : (t : Bool) → not t ≡ true → t ≡ false
-not_true true e = sym e
-not_true false e = refl
-
 -- ---- forms
 
 -- a byte that is no ESC and begins a form
@@ -44,10 +41,10 @@ form_first halves b rest f x l o e = λ sets kind.
     ∙ ap (λ (y : Opening). opened y sets kind halves (b ∷ rest)) o
     ∙ e
 
-at_least : (least most b : ℕ) → is_between least most b ≡ true → least ≤ b
+pub at_least : (least most b : ℕ) → is_between least most b ≡ true → least ≤ b
 at_least least most b e = grind (arith, nat_tests)
 
-at_most : (least most b : ℕ) → is_between least most b ≡ true → b ≤ most
+pub at_most : (least most b : ℕ) → is_between least most b ≡ true → b ≤ most
 at_most least most b e = grind (arith, nat_tests)
 
 pair_first : (halves : Halves) (a b : ℕ) (rest : List ℕ) → halves.left ≡ left.Ir87 → is_between 0x21 0x7E a ≡ true

@@ -55,7 +55,7 @@ unfolding hidden
 first_two = refl
 
 -- which of ASCII are hidden
-ascii_hidden : (b : ℕ) → b < 128 → is_hidden b ≡ (nat_lt b 32 || (b == 127))
+pub ascii_hidden : (b : ℕ) → b < 128 → is_hidden b ≡ (nat_lt b 32 || (b == 127))
 ascii_hidden b l =
     ap (λ (t : Bool). t || list_any (λ (r : ℕ × ℕ). is_between r.0 r.1 b) hidden) (no_plane b l)
     ∙ ap (list_any (λ (r : ℕ × ℕ). is_between r.0 r.1 b)) first_two

@@ -14,3 +14,4 @@ pub mod ShownSizes
 pub mod Runs
 pub mod Directly
 pub mod Ahead
+pub mod Displayed

@@ -5,6 +5,7 @@ use Rattle.std.specs.Prelude.{◌==◌, ◌&&◌, ◌||◌, not, nat_lt}
 use Rattle.std.proofs.lemmas.Bool.{and_parts}
 use Rattle.std.proofs.lemmas.Bool.Decides.{nat_tests}
 use lib.Utf8.{scalar}
+use Rattle.dcm_lemmas.proofs.Truth.{or_first, or_second}
 use Rattle.dcm_text.specs.declared.characters.Single.{Single}
 use Rattle.dcm_text.specs.declared.characters.Single.TheVariants.{Ir13, Ir100, Ir101, Ir109, Ir110, Ir126, Ir127, Ir138, Ir144, Ir148, Ir166, Ir203}
 use Rattle.dcm_text.specs.Characters.{right_half, entry, single_character}
@@ -18,18 +19,11 @@ are_apart : List ℕ → Bool
 are_apart [] = true
 are_apart (x ∷ xs) = ((x == 0) || not (has x xs)) && are_apart xs
 
-or_left : (a b : Bool) → a ≡ true → a || b ≡ true
-or_left a b e = ap (λ (t : Bool). t || b) e
-
-or_right : (a b : Bool) → b ≡ true → a || b ≡ true
-or_right true b e = refl
-or_right false b e = e
-
 has_at : (xs : List ℕ) (i x : ℕ) → get_or xs i 0 ≡ x → 0 < x → has x xs ≡ true
 unfolding has
 has_at [] i x e l = absurd (omega arith)
-has_at (y ∷ ys) zero x e l = or_left (y == x) (has x ys) (grind (arith, nat_tests))
-has_at (y ∷ ys) (suc i) x e l = or_right (y == x) (has x ys) (has_at ys i x e l)
+has_at (y ∷ ys) zero x e l = or_first (y == x) (has x ys) (grind (arith, nat_tests))
+has_at (y ∷ ys) (suc i) x e l = or_second (y == x) (has x ys) (has_at ys i x e l)
 
 not_apart : (y x : ℕ) (ys : List ℕ) → (y == 0) || not (has y ys) ≡ true → y ≡ x → 0 < x → has x ys ≡ true → ⊥
 not_apart y x ys e same l h = absurd (of_tests (y == 0) (has y ys) (grind (arith, nat_tests)) (ap (λ (z : ℕ). has z ys) same ∙ h) e)

@@ -1,5 +1,5 @@
 -- What is shown is valid UTF-8.
-use Rattle.std.proofs.Common.{◌≡◌, ℕ, zero, suc, ◌+◌, ◌-◌, ◌*◌, ◌/◌, ◌%◌, ◌<◌, Bool, true, false, cond, List, [], ◌∷◌, length, take, drop, get_or, Option, Some, None}
+use Rattle.std.proofs.Common.{◌≡◌, ℕ, zero, suc, ◌+◌, ◌-◌, ◌*◌, ◌/◌, ◌%◌, ◌<◌, Bool, true, false, cond, List, [], ◌∷◌, ◌++◌, length, take, drop, get_or, Option, Some, None}
 use Rattle.std.proofs.Common.{refl, sym, ap, subst, ◌∙◌, arith}
 use Rattle.std.specs.Prelude.{◌==◌, nat_lt, flat_map, option_and_then, IsUtf8}
 use Rattle.std.specs.Char.{encode_utf8}
@@ -254,25 +254,26 @@ all_parts n bs e =
     and_parts (list_all is_byte (take n bs)) (list_all is_byte (drop n bs))
     (sym (list_all-append is_byte (take n bs) (drop n bs)) ∙ ap (list_all is_byte) (take-append-drop n bs) ∙ e)
 
-module _ (show : Piece → List ℕ) (valid : (bytes : List ℕ) (m : Meaning) → list_all is_byte bytes ≡ true → Fair m → IsUtf8 (show (bytes, m))) where
+-- what holds of nothing, and of both of two parts, and of what each piece shows, holds of all that is shown
+module _ (Holds : List ℕ → Type 0) (none : Holds []) (both : (xs ys : List ℕ) → Holds xs → Holds ys → Holds (xs ++ ys)) (show : Piece → List ℕ) (valid : (bytes : List ℕ) (m : Meaning) → list_all is_byte bytes ≡ true → Fair m → Holds (show (bytes, m))) where
   by_pieces : (n : ℕ) (sets : Sets) (kind : TextKind) (halves : Halves) (text : List ℕ) → list_all is_byte text ≡ true
-      → IsUtf8 (flat_map show (decoded_by n sets kind halves text))
-  by_pieces zero sets kind halves text e = IsUtf8-nil
-  by_pieces (suc n) sets kind halves [] e = IsUtf8-nil
+      → Holds (flat_map show (decoded_by n sets kind halves text))
+  by_pieces zero sets kind halves text e = none
+  by_pieces (suc n) sets kind halves [] e = none
   by_pieces (suc n) sets kind halves (b ∷ rest) e =
       let f : Found = or_unknown halves (first_of sets kind halves (b ∷ rest)) in
       let parts = all_parts f.size (b ∷ rest) e in
-      IsUtf8-append _ _ (valid (take f.size (b ∷ rest)) f.meaning parts.0 (or_fair halves (first_of sets kind halves (b ∷ rest)) (first_fair sets kind halves (b ∷ rest))))
+      both _ _ (valid (take f.size (b ∷ rest)) f.meaning parts.0 (or_fair halves (first_of sets kind halves (b ∷ rest)) (first_fair sets kind halves (b ∷ rest))))
       (by_pieces n sets kind f.halves (drop f.size (b ∷ rest)) parts.1)
 
-  whole_shown : (sets : Sets) (kind : TextKind) (text : List ℕ) → list_all is_byte text ≡ true → IsUtf8 (flat_map show (decoded sets kind text))
+  pub whole_shown : (sets : Sets) (kind : TextKind) (text : List ℕ) → list_all is_byte text ≡ true → Holds (flat_map show (decoded sets kind text))
   unfolding decoded decoded_from
   whole_shown sets kind text e = by_pieces (length text) sets kind (start_of sets) text e
 
 pub dump_utf8 : (sets : Sets) (kind : TextKind) (text : List ℕ) → list_all is_byte text ≡ true → IsUtf8 (dumped sets kind text)
 unfolding dumped
-dump_utf8 = whole_shown dumped_piece dumped_utf8
+dump_utf8 = whole_shown IsUtf8 IsUtf8-nil IsUtf8-append dumped_piece dumped_utf8
 
 pub table_utf8 : (sets : Sets) (kind : TextKind) (text : List ℕ) → list_all is_byte text ≡ true → IsUtf8 (cell sets kind text)
 unfolding cell
-table_utf8 = whole_shown cell_piece cell_utf8
+table_utf8 = whole_shown IsUtf8 IsUtf8-nil IsUtf8-append cell_piece cell_utf8

@@ -1,23 +1,19 @@
 -- The terms of a value, and the bytes at their ends that do not count.
-use Rattle.std.proofs.Common.{◌≡◌, ◌<◌, ◌≤◌, ℕ, ◌+◌, ◌-◌, Bool, true, false, List, [], ◌∷◌, ◌++◌, length, take, drop, get_or, Option, Some, None, refl}
+use Rattle.std.proofs.Common.{◌≡◌, ◌<◌, ◌≤◌, ℕ, ◌+◌, ◌-◌, Bool, true, false, List, [], ◌∷◌, ◌++◌, length, take, drop, get_or, Some, None, refl}
 use Rattle.std.proofs.Common.{arith, ap, ◌∙◌, sym, inl, inr}
 use Rattle.std.specs.Prelude.{nat_lt, cond, not, position}
-use Rattle.std.specs.List.{position_or_len, slice_split, onto_first}
+use Rattle.std.specs.List.{position_or_len, slice_split}
 use Rattle.std.proofs.lemmas.Bool.{cases_lt, lt-ltb, le-ltb}
 use Rattle.std.proofs.lemmas.List.{take_more}
 use Rattle.std.proofs.lemmas.List.Splits.{slice_split_first}
 use Rattle.std.proofs.Math.Seq.{take-length}
+use Rattle.dcm_lemmas.proofs.Lists.{one_part}
+use Rattle.dcm_lemmas.proofs.Options.{none_is, some_back}
 use Rattle.dcm_text.specs.Sets.{is_pad, onto, without_pads}
-
-some_is : (m n : ℕ) → Some m ≡ Some n → n ≡ m
-some_is m n e = cc
-
-none_is : (m : ℕ) → (let o : Option ℕ = Some m in o ≡ None) → ⊥
-none_is m e = cc
 
 some_place : (n m at : ℕ) → cond (nat_lt n m) (Some n) None ≡ Some at → (n < m) × (at ≡ n)
 some_place n m at e = elim (cases_lt n m) [
-  | inl l ↦ (l, some_is n at (sym (ap (λ (b : Bool). cond b (Some n) None) (lt-ltb n m l)) ∙ e))
+  | inl l ↦ (l, some_back n at (sym (ap (λ (b : Bool). cond b (Some n) None) (lt-ltb n m l)) ∙ e))
   | inr l ↦ absurd (none_is at (sym (sym (ap (λ (b : Bool). cond b (Some n) None) (le-ltb n m l)) ∙ e)))
 ]
 
@@ -28,14 +24,6 @@ no_place n m e = elim (cases_lt n m) [
 ]
 
 -- ---- parts
-one_part : (p : ℕ → Bool) (xs : List ℕ) → length xs ≤ position_or_len p xs → slice_split p xs ≡ xs ∷ []
-one_part p [] l = refl
-one_part p (x ∷ xs) l = of_test (p x) l (one_part p xs)
-  where
-    of_test : (t : Bool) → length (x ∷ xs) ≤ cond (not t) (1 + position_or_len p xs) 0 → (length xs ≤ position_or_len p xs → slice_split p xs ≡ xs ∷ []) → cond t ([] ∷ slice_split p xs) (onto_first x (slice_split p xs)) ≡ (x ∷ xs) ∷ []
-    of_test true l rec = absurd (omega arith)
-    of_test false l rec = ap (onto_first x) (rec (omega arith))
-
 -- the first part ends at the first separator, where there is one
 pub parts_first : (p : ℕ → Bool) (xs : List ℕ) (at : ℕ) → position p xs ≡ Some at
     → slice_split p xs ≡ take at xs ∷ slice_split p (drop (at + 1) xs)

@@ -1,7 +1,7 @@
 -- A character in UTF-8 is read as it was written.
 use Rattle.std.proofs.Common.{◌≡◌, ℕ, ◌+◌, ◌-◌, ◌*◌, ◌/◌, ◌%◌, ◌≤◌, ◌<◌, Bool, true, false, cond, List, [], ◌∷◌, ◌++◌, length, take, drop, map, Option, Some, None}
 use Rattle.std.proofs.Common.{refl, sym, ap, subst, ◌∙◌, arith, append_assoc, inl, inr, ◌⊎◌, ⊎_elim}
-use Rattle.std.specs.Prelude.{nat_lt, ◌==◌, ◌&&◌, encode_utf8_all}
+use Rattle.std.specs.Prelude.{nat_lt, ◌==◌, encode_utf8_all}
 use Rattle.std.specs.Char.{encode_utf8}
 use Rattle.std.specs.Str.{all_scalars}
 use Rattle.std.proofs.Math.Seq.{take-append_seam, drop-append_seam}
@@ -9,6 +9,7 @@ use Rattle.std.proofs.lemmas.Bool.{cases_lt, cond-true, cond-false, and_parts}
 use Rattle.std.proofs.lemmas.Bool.Decides.{nat_tests}
 use lib.Dec.{ltb}
 use lib.Utf8.{scalar, scalar_cases}
+use Rattle.dcm_lemmas.proofs.Truth.{and_second_false}
 use Rattle.dcm_text.specs.declared.set.Halves.{Halves}
 use Rattle.dcm_text.specs.declared.set.Right.{Right}
 use Rattle.dcm_text.specs.declared.set.TextKind.{TextKind}
@@ -177,12 +178,8 @@ module _ (halves : Halves) (c : ℕ) (rest : List ℕ) (is : scalar c ≡ true) 
 
 -- ---- whole texts
 
-and_false : (t x : Bool) → x ≡ false → t && x ≡ false
-and_false true x e = e
-and_false false x e = refl
-
 no_escape : (sets : Sets) (b : ℕ) → IsUtf8InForce sets → is_escape sets b ≡ false
-no_escape sets b u = and_false (b == 0x1B) sets.extended u.alone
+no_escape sets b u = and_second_false (b == 0x1B) sets.extended u.alone
 
 utf8_opening : (sets : Sets) (b : ℕ) → IsUtf8InForce sets → 0xC2 ≤ b → b ≤ 0xF4 → opening_of (start_of sets) b ≡ opening.Form form.Utf8
 utf8_opening sets b u l h =

@@ -5,6 +5,7 @@ use Rattle.std.specs.Prelude.{flat_map, nat_lt, not}
 use Rattle.std.specs.List.{list_all}
 use Rattle.std.proofs.lemmas.List.{take-append-drop}
 use Rattle.std.proofs.lemmas.Bool.{and_parts}
+use Rattle.dcm_lemmas.proofs.Truth.{not_true}
 use Rattle.dcm_text.specs.declared.set.Halves.{Halves}
 use Rattle.dcm_text.specs.declared.set.TextKind.{TextKind}
 use Rattle.dcm_text.specs.declared.sets.Sets.{Sets}
@@ -36,7 +37,7 @@ all_bytes sets kind text = bytes_by (length text) sets kind (start_of sets) text
 
 -- ---- ASCII
 
-same_behind : (sets : Sets) (kind : TextKind) (b : ℕ) → behind sets kind (start_of sets) b ≡ start_of sets
+pub same_behind : (sets : Sets) (kind : TextKind) (b : ℕ) → behind sets kind (start_of sets) b ≡ start_of sets
 same_behind sets kind b = of_test (resets kind b)
   where
     of_test : (t : Bool) → cond t (start_of sets) (start_of sets) ≡ start_of sets
@@ -48,10 +49,6 @@ plain_opening sets b e = ap (λ (t : Bool). cond t (left_opening (start_of sets)
 
 abbrev pub plain_found : Sets → ℕ → Found
 plain_found sets b = record { size = 1; meaning = meaning.Character b; halves = start_of sets }
-
-not_false : (t : Bool) → not t ≡ true → t ≡ false
-not_false true e = sym e
-not_false false e = refl
 
 pub plain_first : (sets : Sets) (kind : TextKind) (b : ℕ) (rest : List ℕ) → nat_lt b 0x80 ≡ true → is_escape sets b ≡ false
     → first_of sets kind (start_of sets) (b ∷ rest) ≡ Some (plain_found sets b)
@@ -69,7 +66,7 @@ plain_from sets kind (b ∷ rest) e =
     let both = and_parts (is_plain sets b) (list_all (is_plain sets) rest) e in
     let this = and_parts (nat_lt b 0x80) (not (is_escape sets b)) both.0 in
     one_piece sets kind (start_of sets) (b ∷ rest) (plain_found sets b)
-    (ap (λ (o : Option Found). Some (or_unknown (start_of sets) o)) (plain_first sets kind b rest this.0 (not_false (is_escape sets b) this.1)))
+    (ap (λ (o : Option Found). Some (or_unknown (start_of sets) o)) (plain_first sets kind b rest this.0 (not_true (is_escape sets b) this.1)))
     ∙ ap (λ (ps : List Piece). as_itself b ∷ ps) (plain_from sets kind rest both.1)
 
 pub plain_decoded : (sets : Sets) (kind : TextKind) (text : List ℕ) → list_all (is_plain sets) text ≡ true
@@ -86,7 +83,7 @@ plain_ahead sets kind (b ∷ front) after e =
     let this = and_parts (nat_lt b 0x80) (not (is_escape sets b)) both.0 in
     one_piece sets kind (start_of sets) (b ∷ (front ++ after)) (plain_found sets b)
     (ap (λ (o : Option Found). Some (or_unknown (start_of sets) o))
-    (plain_first sets kind b (front ++ after) this.0 (not_false (is_escape sets b) this.1)))
+    (plain_first sets kind b (front ++ after) this.0 (not_true (is_escape sets b) this.1)))
     ∙ ap (λ (ps : List Piece). as_itself b ∷ ps) (plain_ahead sets kind front after both.1)
 
 pub plain_passed : (sets : Sets) (kind : TextKind) (halves : Halves) (text front after : List ℕ) (size : ℕ) → halves ≡ start_of sets

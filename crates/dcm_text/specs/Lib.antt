@@ -11,3 +11,4 @@ pub mod Shown
 pub mod Laws
 pub mod Quick
 pub mod Fronts
+pub mod Within

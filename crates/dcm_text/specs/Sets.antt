@@ -1,7 +1,7 @@
 -- What a value of Specific Character Set (0008,0005) names (PS3.3 C.12.1.1.2).
 use Rattle.std.specs.Prelude.{ℕ, ◌^◌, Bool, true, false, ◌||◌, ◌==◌, nat_lt, List, [], ◌∷◌, map, find, fold, length, bytes_eq}
-use Rattle.std.specs.Prelude.{Option, option_map, unwrap_or, if◌then◌else◌}
-use Rattle.std.specs.List.{slice_split}
+use Rattle.std.specs.Prelude.{Option, is_some, option_map, unwrap_or, if◌then◌else◌}
+use Rattle.std.specs.List.{list_all, slice_split}
 use Rattle.std.specs.Int.{bit_at}
 use Rattle.std.specs.Int.Bits.{bit_or}
 use Rattle.dcm_text.specs.declared.characters.Single.TheVariants.{Ir13, Ir100, Ir101, Ir109, Ir110, Ir126, Ir127, Ir138, Ir144, Ir148, Ir166, Ir203}
@@ -126,3 +126,13 @@ terms_of value = slice_split (λ b. b == 0x5C) value
 -- what a value names: one of more than 512 bytes names what the empty one does
 unfoldable pub sets_of : List ℕ → Sets
 sets_of value = if nat_lt 512 (length value) then of_first [] else of_terms (terms_of value)
+
+-- ---- what is not known
+
+-- a term of the table; so is an empty one
+abbrev pub is_term : List ℕ → Bool
+is_term term = is_some (named_in terms (trimmed term))
+
+-- what a value names is known: it has at most 512 bytes, and each of its terms is one
+unfoldable pub is_known : List ℕ → Bool
+is_known value = if nat_lt 512 (length value) then false else list_all is_term (terms_of value)

@@ -13,7 +13,7 @@ use arrayvec::ArrayVec;
 const MOST_BYTES: usize = 4;
 
 /// The most bytes that wait for what follows them.
-const MOST_HELD: usize = 3;
+const MOST_UNDECIDED: usize = 3;
 
 /// Some bytes of a text, and what they are.
 #[derive(Drop)]
@@ -28,7 +28,7 @@ pub struct Decoder {
     sets: Sets,
     kind: TextKind,
     halves: Halves,
-    held: ArrayVec<u8, MOST_HELD>,
+    held: ArrayVec<u8, MOST_UNDECIDED>,
 }
 
 /// A few bytes on their own.
@@ -63,7 +63,7 @@ pub(crate) fn found(
 
 /// Held bytes and those behind them, as many as a part may have, and the rest.
 fn window_of<'a>(
-    held: &ArrayVec<u8, MOST_HELD>,
+    held: &ArrayVec<u8, MOST_UNDECIDED>,
     input: &'a [u8],
 ) -> (ArrayVec<u8, MOST_BYTES>, &'a [u8])
     ensures whole { held.now.items ++ input.now ≡ result.0.items ++ result.1.now }
@@ -80,7 +80,7 @@ fn window_of<'a>(
 }
 
 /// The input behind so many bytes of what is held and of it; what is held loses them.
-fn passed<'a>(held: &mut ArrayVec<u8, MOST_HELD>, input: &'a [u8], size: usize) -> &'a [u8]
+fn passed<'a>(held: &mut ArrayVec<u8, MOST_UNDECIDED>, input: &'a [u8], size: usize) -> &'a [u8]
     requires { size ≤ length held.old.items + length input.now }
     ensures { held.new.items ++ result.now ≡ drop size (held.old.items ++ input.now) }
 {

@@ -10,6 +10,7 @@ ghost use Rattle.dcm_text.specs.declared.sets.Sets.{Sets};
 ghost use Rattle.dcm_text.specs.Sets.{sets_of, place, has_flag, with_flag};
 ghost use Rattle.dcm_text.specs.declared.set.Set.{Set};
 ghost use Rattle.dcm_text.specs.Decoding.{decoded};
+ghost use Rattle.dcm_text.specs.Within.{StandsWithinBrackets};
 ghost use Rattle.dcm_text.specs.Laws.{IsUtf8InForce, is_plain, as_itself, ascii_dumped, encoded, is_byte};
 ghost use Rattle.dcm_text.specs.Runs.{State, begun, joined, run, run_pieces};
 ghost use Rattle.dcm_text.specs.Shown.{dumped, cell, is_dumped};
@@ -67,6 +68,12 @@ pub fn shown_is_utf8()
         → IsUtf8 (dumped sets kind text) }
     ensures cell { (sets : Sets) (kind : TextKind) (text : List ℕ) → list_all is_byte text ≡ true
         → IsUtf8 (cell sets kind text) }
+{}
+
+/// A display has no line break, no `]`, and nothing hidden. It is characters in UTF-8, whatever is in force.
+pub fn display_is_plain()
+    ensures { (sets : Sets) (kind : TextKind) (text : List ℕ) → list_all is_byte text ≡ true
+        → StandsWithinBrackets (dumped sets kind text) }
 {}
 
 /// A dump shows at most three bytes for each byte of a text.

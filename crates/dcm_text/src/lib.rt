@@ -35,6 +35,6 @@ pub use ascii::ascii_of_eight;
 pub use decoder::{Decoder, Part};
 pub use first::Meaning;
 pub use set::TextKind;
-pub use sets::{Sets, sets_of};
+pub use sets::{Sets, is_known, sets_of};
 pub use shown::{append_dumped, dumped, in_cell, is_hidden};
 pub use text_pieces::TextPieces;

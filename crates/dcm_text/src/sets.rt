@@ -1,10 +1,11 @@
 //! What a value of Specific Character Set (0008,0005) names (PS3.3 C.12.1.1.2).
 ghost use Rattle.std.specs.Prelude.{◌≡◌, ◌≤◌, map, option_map, position, true, length, ◌==◌, fold};
-ghost use Rattle.std.specs.List.{slice_split};
+ghost use Rattle.std.specs.List.{list_all, slice_split};
 ghost use Rattle.dcm_text.specs.Sets as spec;
 
 use crate::characters::Single;
 use crate::set::{Right, Set};
+use dcm_bytes::backslash;
 
 /// A term, what it names, and whether it brings code extensions where it stands alone.
 pub type Term = (&'static str, Set, bool);
@@ -237,13 +238,6 @@ fn with_term(sets: Sets, term: &[u8]) -> Sets
     }
 }
 
-/// The place of the first backslash.
-fn backslash(text: &[u8]) -> Option<usize>
-    ensures { result ≡ position (λ b. b == 0x5C) text.now }
-{
-    text.iter().position(|byte| *byte == b'\\')
-}
-
 /// The same with all terms of a text.
 fn with_terms(first: Sets, text: &[u8]) -> Sets
     ensures { result ≡ fold spec.with_term first (slice_split (λ b. b == 0x5C) text.now) }
@@ -274,4 +268,37 @@ pub fn sets_of(value: &[u8]) -> Sets
             with_terms(of_first(term), others)
         }
     }
+}
+
+/// Whether a term is in the table.
+fn is_term(term: &[u8]) -> bool
+    ensures { result ≡ spec.is_term term.now }
+{
+    named_in(terms(), without_pads(without_spaces(term))).is_some()
+}
+
+/// Whether all terms of a text are in the table.
+fn are_terms(text: &[u8]) -> bool
+    ensures { result ≡ list_all spec.is_term (spec.terms_of text.now) }
+{
+    let mut rest = text;
+    while let Some(at) = backslash(rest) {
+        let (term, after) = rest.split_at(at);
+        if !is_term(term) {
+            return false;
+        }
+        let (_, next) = after.split_at(1);
+        rest = next;
+    }
+    is_term(rest)
+}
+
+/// Whether what a value names is known: it has at most 512 bytes, and all its terms are in the table, or empty.
+pub fn is_known(value: &[u8]) -> bool
+    ensures { result ≡ spec.is_known value.now }
+{
+    if value.len() > LONGEST {
+        return false;
+    }
+    are_terms(value)
 }

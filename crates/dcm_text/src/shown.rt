@@ -8,6 +8,7 @@ ghost use Rattle.dcm_text.specs.Shown as spec;
 use crate::decoder::Part;
 use crate::first::Meaning;
 use arrayvec::ArrayVec;
+use dcm_bytes::append;
 
 /// The first and the last of some characters.
 pub type Characters = (u32, u32);
@@ -112,17 +113,6 @@ fn backslashed(byte: u8) -> [u8; 4]
     ensures { result ≡ spec.backslashed byte }
 {
     [b'\\', b'x', digit(byte / 16, b'a'), digit(byte % 16, b'a')]
-}
-
-/// Appends bytes, for which there is room.
-fn append<const N: usize>(bytes: &[u8], text: &mut ArrayVec<u8, N>)
-    requires { length text.old.items + length bytes.now ≤ N }
-    ensures { text.new.items ≡ text.old.items ++ bytes.now }
-{
-    match text.try_extend_from_slice(bytes) {
-        Ok(()) => (),
-        Err(_) => unreachable!(),
-    }
 }
 
 /// The same for a character by its bytes. Nearly all characters of Asia have three, and so many are copied without a

@@ -8,6 +8,7 @@ use Rattle.dcm_base.specs.declared.syntax.Syntax.{Syntax}
 use Rattle.dcm_base.proofs.DumpsBack.Texts.{bytes_of}
 use Rattle.dcm_files.specs.declared.memory.MemSystem.{MemSystem}
 use Rattle.dcm_names.specs.Names.{names_of, shown_name}
+use Rattle.dcm_value.proofs.Displays.DecodedUtf8.{low_utf8}
 use Rattle.dcm_words.specs.Words.{Job, dump_decoded}
 use Rattle.dcm_table_words.specs.Table.{Name, file, list}
 use Rattle.dcm_cli.specs.declared.ending.Verdict.{Verdict}
@@ -20,7 +21,7 @@ use Rattle.dcm_dumps.specs.DumpsInMemory.{AllCome, DumpsComeBy, DumpsOutcome, Fi
 use Rattle.dcm_dumps.specs.Heading.{before_heading, heading, of_total}
 use Rattle.dcm_dumps.specs.Words.{Dumps}
 use Rattle.dcm_text_laws.specs.Laws.{DumpsAreUtf8, HoldsBytes}
-use Rattle.dcm_text_laws.proofs.Lines.{both, decimal_utf8, low_utf8}
+use Rattle.dcm_text_laws.proofs.Lines.{both, decimal_utf8}
 use Rattle.dcm_text_laws.proofs.Names.{IsOpened, file_opened, listed_opened, shown_utf8}
 use Rattle.dcm_text_laws.proofs.Runs.{source_utf8}
 

@@ -9,7 +9,6 @@ use Rattle.dcm_base.specs.declared.syntax.Coding.{Coding}
 use Rattle.dcm_base.specs.declared.syntax.Syntax.{Syntax}
 use Rattle.dcm_base.specs.declared.syntax.Syntax.TheVariants.{Implicit as implicit_in, Little as little_in, Big as big_in}
 use Rattle.dcm_base.specs.declared.transfer.Deflated.{Deflated as DeflatedSyntax}
-use Rattle.dcm_base.specs.Dump.Header.{set_header}
 use Rattle.dcm_base.specs.File.MetaGroup.{GroupPlace, an_element, the_end, too_few, a_fault}
 use Rattle.dcm_base.specs.File.MetaReads.{Meta, MetaReads, PREFIX, answer_behind, begins, coded, named, no_prefix, syntax_value, too_short, with_group}
 use Rattle.dcm_base.specs.Tables.Syntax.{Little}
@@ -19,16 +18,18 @@ use Rattle.dcm_base.specs.Tables.Uid.{uid_name, uids}
 use Rattle.dcm_base.specs.Tree.Tree.{Trees, no_tree, leaf, sequence, fragments}
 use Rattle.dcm_base.proofs.DumpsBack.Texts.{Bytes}
 use Rattle.dcm_head.specs.SyntaxUids.{uid_of_syntax}
+use Rattle.dcm_table.proofs.ValidRows.{listed}
 use Rattle.dcm_text.specs.declared.set.TextKind.TheVariants.{OneValue}
 use Rattle.dcm_text.specs.Shown.{dumped}
 use Rattle.dcm_text.proofs.Sound.{dump_utf8}
 use Rattle.dcm_value.proofs.Displays.DecodedAsBefore.{low, low_name}
 use Rattle.dcm_sinks.specs.InForce.{EMPTY}
-use Rattle.dcm_sinks.specs.DecodedHeader.{decoded_meta_header, decoded_set_header, decoded_syntax_name}
+use Rattle.dcm_sinks.specs.DecodedHeader.{decoded_meta_header, decoded_set_header, decoded_alone_header, decoded_syntax_name, used_syntax}
 use Rattle.dcm_sinks.proofs.ReadBack.Sources.{bytes_parts}
-use Rattle.dcm_text_laws.proofs.Lines.{all_bytes, both, low_utf8}
+use Rattle.dcm_text_laws.proofs.Lines.{both}
 use Rattle.dcm_text_laws.proofs.Fronts.{OfBytes, set_utf8}
 use Rattle.dcm_text_laws.proofs.Read.{trees_read}
+use Rattle.dcm_value.proofs.Displays.DecodedUtf8.{low_utf8}
 
 -- ---- headers
 
@@ -36,27 +37,29 @@ name_utf8 : (uid : List ℕ) → Bytes uid → IsUtf8 (decoded_syntax_name uid)
 name_utf8 uid h = go (uid_name uid) refl
   where
     go : (o : Option (List ℕ)) → uid_name uid ≡ o → IsUtf8 (option_map_or (λ name. name) o (dumped EMPTY OneValue uid))
-    go None e = dump_utf8 EMPTY OneValue uid (all_bytes uid h)
+    go None e = dump_utf8 EMPTY OneValue uid (listed uid h)
     go (Some name) e = low_utf8 name (low_name uid name e)
 
+used_utf8 : (uid : List ℕ) → Bytes uid → IsUtf8 (used_syntax uid)
+used_utf8 uid h = both (both (low_utf8 (codes "# Used TransferSyntax: ") refl) (name_utf8 uid h)) (low_utf8 (10 ∷ []) refl)
+
 pub set_header_utf8 : (uid : List ℕ) → Bytes uid → IsUtf8 (decoded_set_header uid)
-set_header_utf8 uid h =
-    both (both (both (both (low_utf8 (codes "# Dicom-Data-Set") refl) (low_utf8 (10 ∷ []) refl)) (low_utf8 (codes "# Used TransferSyntax: ") refl)) (name_utf8 uid h)) (low_utf8 (10 ∷ []) refl)
+set_header_utf8 uid h = both (both (low_utf8 (codes "# Dicom-Data-Set") refl) (low_utf8 (10 ∷ []) refl)) (used_utf8 uid h)
 
 pub meta_header_utf8 : (d : Dictionary) (mode : Mode) (elements : Trees) → OfBytes elements → IsUtf8 (decoded_meta_header d mode elements)
 meta_header_utf8 d mode elements h =
-    both (both (both (both (both (both (both (low_utf8 (codes "# Dicom-File-Format") refl) (low_utf8 (10 ∷ 10 ∷ []) refl)) (low_utf8 (codes "# Dicom-Meta-Information-Header") refl)) (low_utf8 (10 ∷ []) refl))
+    both (both (both (both (both (both (both (low_utf8 (codes "# Dicom-File-Format (texts in UTF-8)") refl) (low_utf8 (10 ∷ 10 ∷ []) refl)) (low_utf8 (codes "# Dicom-Meta-Information-Header") refl)) (low_utf8 (10 ∷ []) refl))
     (low_utf8 (codes "# Used TransferSyntax: LittleEndianExplicit") refl)) (low_utf8 (10 ∷ []) refl)) (set_utf8 d mode EMPTY 0 elements h)) (low_utf8 (10 ∷ []) refl)
 
 -- of a data set alone: its transfer syntax has a name
-alone_low : (s : Syntax) → list_all low (set_header (uid_of_syntax s)) ≡ true
+alone_low : (s : Syntax) → list_all low (decoded_alone_header (uid_of_syntax s)) ≡ true
 unfolding uid_name uids
 alone_low (implicit_in d) = refl
 alone_low (little_in d) = refl
 alone_low (big_in d) = refl
 
-pub alone_header_utf8 : (s : Syntax) → IsUtf8 (set_header (uid_of_syntax s))
-alone_header_utf8 s = low_utf8 (set_header (uid_of_syntax s)) (alone_low s)
+pub alone_header_utf8 : (s : Syntax) → IsUtf8 (decoded_alone_header (uid_of_syntax s))
+alone_header_utf8 s = low_utf8 (decoded_alone_header (uid_of_syntax s)) (alone_low s)
 
 -- ---- the head of a file
 

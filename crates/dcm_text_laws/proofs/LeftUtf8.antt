@@ -1,8 +1,10 @@
 -- What dumps and a table leave of their output, over any system, grew by valid UTF-8.
-use Rattle.std.proofs.Common.{◌≡◌, ◌∙◌, ap, sym, subst, refl, ℕ, List, [], ◌++◌, append_assoc, append-nil, map, true, Option, Some, None, Result, Ok, Err}
+use Rattle.std.proofs.Common.{◌≡◌, ◌∙◌, ap, sym, subst, ℕ, List, [], ◌++◌, append-nil, map, true, Option, Some, None, Result, Ok, Err}
 use Rattle.std.specs.Prelude.{IsUtf8, unwrap_or}
 use Rattle.std.specs.Io.KnownBytes.{append_known}
 use Rattle.std.proofs.lemmas.Str.{IsUtf8-nil}
+use Rattle.dcm_cli.proofs.Passes.Readers.{allows_nothing}
+use Rattle.dcm_lemmas.proofs.Options.{known_nothing, known_twice}
 use Rattle.dcm_base.specs.declared.dictionary.Dictionary.{Dictionary}
 use Rattle.dcm_base.specs.declared.mode.Mode.{Mode}
 use Rattle.dcm_base.specs.declared.syntax.Syntax.{Syntax}
@@ -12,7 +14,6 @@ use Rattle.dcm_base.proofs.DumpsBack.Texts.{Bytes, bytes_of}
 use Rattle.dcm_devices.specs.declared.device.WriteFailed.{WriteFailed}
 use Rattle.dcm_devices.specs.Device.{Gave, no_calls, and_call}
 use Rattle.dcm_devices.specs.Writing.{Writer}
-use Rattle.dcm_devices.proofs.Writes.Puts.{append_known_none}
 use Rattle.dcm_files.specs.declared.opened.Opened.{Opened}
 use Rattle.dcm_files.specs.Devices.{MayDo}
 use Rattle.dcm_names.specs.Names.{can_be_opened}
@@ -23,7 +24,7 @@ use Rattle.dcm_cli.specs.declared.ending.Verdict.{Verdict}
 use Rattle.dcm_cli.specs.Answer.{Sure}
 use Rattle.dcm_cli.specs.Calls.{Reader}
 use Rattle.dcm_cli.specs.Change.{Change}
-use Rattle.dcm_cli.specs.InputCalls.{How, Allows, in_part, to_end, with_failure, InputCalls, no_call, last_call}
+use Rattle.dcm_cli.specs.InputCalls.{How, InputCalls, no_call, last_call}
 use Rattle.dcm_cli.specs.Run.{Answered, AnsweredAll}
 use Rattle.dcm_dumps.specs.Dumps.{DoesDump, Manner, Shown, ShowsFile, dumps_into, headed, is_output, next_heading, next_number, not_flushed, not_headed, not_written, nothing_shown, shown, unread}
 use Rattle.dcm_dumps.specs.Words.{total_of}
@@ -42,19 +43,15 @@ use Rattle.dcm_text_laws.proofs.Tables.{header_utf8, table_low}
 
 -- ---- what grew
 
-known_more : (known : Option (List ℕ)) (a b : List ℕ) → append_known (append_known known a) b ≡ append_known known (a ++ b)
-known_more None a b = refl
-known_more (Some all) a b = ap Some (append_assoc all a b)
-
 module _ {W : Type 0} (w : Writer W) where
   pub stays : (x : W) → GrewByUtf8 w x x
-  stays x = ([], IsUtf8-nil, sym (append_known_none (w.contents x)))
+  stays x = ([], IsUtf8-nil, sym (known_nothing (w.contents x)))
 
   pub same : (x y : W) → y ≡ x → GrewByUtf8 w x y
   same x y is = subst (λ (z : W). GrewByUtf8 w x z) (sym is) (stays x)
 
   pub and_then : (x y z : W) → GrewByUtf8 w x y → GrewByUtf8 w y z → GrewByUtf8 w x z
-  and_then x y z (a, f, e) (b, g, h) = (a ++ b, both f g, h ∙ ap (λ (known : Option (List ℕ)). append_known known b) e ∙ known_more (w.contents x) a b)
+  and_then x y z (a, f, e) (b, g, h) = (a ++ b, both f g, h ∙ ap (λ (known : Option (List ℕ)). append_known known b) e ∙ known_twice (w.contents x) a b)
 
 -- ---- what was given
 
@@ -73,12 +70,6 @@ module _ {R : Type 0} (r : Reader R) (gives : GivesBytes r) where
   given_bytes Needed before given how after (last_call front mid call calls needed last is how_is) =
       subst Bytes (sym is) (Bytes-append front (unwrap_or call []) (all_given before front mid calls) (one_given call mid after last))
 
--- an input may end where it was read to
-pub may_end : (how : How) → Allows how []
-may_end in_part = tt
-may_end to_end = refl
-may_end with_failure = tt
-
 -- ---- dumps
 
 no_other : (x : ℕ) (e : WriteFailed) → (let r : Result ℕ WriteFailed = Ok x in r ≡ Err e) → ⊥
@@ -87,7 +78,7 @@ no_other x e h = cc
 module _ {I W : Type 0} (r : Reader I) (w : Writer W) (gives : GivesBytes r) (d : Dictionary) (mode : Mode) (bare : Option Syntax) where
   answered_utf8 : (job : Job) (given : List ℕ) (how : How) (text : List ℕ) (verdict : Verdict) → job ≡ dump_decoded d mode bare → Bytes given → AnsweredAll job given how text verdict → IsUtf8 text
   answered_utf8 job given how text verdict is_job are all =
-      let a : Answered job given text verdict = subst (λ (bytes : List ℕ). Answered job bytes text verdict) (append-nil given) (all [] (may_end how)) in
+      let a : Answered job given text verdict = subst (λ (bytes : List ℕ). Answered job bytes text verdict) (append-nil given) (all [] (allows_nothing how)) in
       let y : Answered (dump_decoded d mode bare) given text verdict = subst (λ (j : Job). Answered j given text verdict) is_job a in
       subst IsUtf8 (sym y.out_is) (source_utf8 d mode bare given y.source are y.reads)
 
@@ -130,7 +121,7 @@ all_dumps_grow {S} {I} {O} {W} may r w asked d mode bare output errors from to b
 pub row_grows : {I W : Type 0} (r : Reader I) (w : Writer W) → RowGrowsByUtf8 r w
 row_grows r w columns form name errors from to before status after gives valid named (row_written cells end decides grows failed lines is) =
     let are = given_bytes r gives _ before decides.given decides.how after decides.reads.calls in
-    let row = decides.comes [] (may_end decides.how) in
+    let row = decides.comes [] (allows_nothing decides.how) in
     (grows.text, rows_valid columns form name (decides.given ++ []) cells end grows.text valid named (λ i. a_byte (decides.given ++ []) i (subst Bytes (sym (append-nil decides.given)) are)) row grows.spelled, grows.grown)
 row_grows r w columns form name errors from to before status after gives valid named (row_unwritten cells end failure decides grows failed lines is) = absurd (no_other status failure is)
 row_grows r w columns form name errors from to before status after gives valid named (row_unread cells count decides out lines is) = same w from to out

@@ -1,6 +1,6 @@
 -- Lines of a dump whose texts are shown by characters are valid UTF-8.
-use Rattle.std.proofs.Common.{◌≡◌, sym, refl, subst, ℕ, zero, suc, ◌+◌, ◌-◌, ◌*◌, List, [], ◌∷◌, ◌++◌, length, take, Bool, true, false, Option, None, Some, arith, lt-ltb}
-use Rattle.std.specs.Prelude.{nat_lt, ◌&&◌, if◌then◌else◌, decimal, codes, flat_map, replicate, IsUtf8, IsAscii}
+use Rattle.std.proofs.Common.{◌≡◌, sym, refl, subst, ℕ, ◌+◌, ◌-◌, ◌*◌, List, [], ◌∷◌, ◌++◌, length, take, Bool, true, false, Option, None, Some, arith}
+use Rattle.std.specs.Prelude.{nat_lt, if◌then◌else◌, decimal, codes, flat_map, replicate, IsUtf8, IsAscii}
 use Rattle.std.specs.List.{list_all}
 use Rattle.std.proofs.lemmas.Str.{IsUtf8-append, IsUtf8-nil, IsUtf8-from_ascii, IsAscii-take, IsAscii-append}
 use Rattle.dcm_base.specs.declared.tag.Tag.{Tag}
@@ -18,11 +18,11 @@ use Rattle.dcm_base.specs.Tables.Dictionary.{keyword_in}
 use Rattle.dcm_base.specs.Dump.ValueText.{Shape, text, identifier, unsigned, signed, tags, hexadecimal, shape, shown, shown_unit, shown_so_far, count, display, shortened, padded, tag_text, units_text}
 use Rattle.dcm_base.specs.Dump.Dump.{length_text, line, line_start, leaf_line, fragment_line, fragment_lines, sequence_opening, item_opening, sequence_end, item_end, sequence_line, item_line, sequence_end_line, item_end_line, open_line, open_fragment}
 use Rattle.dcm_base.proofs.DumpsBack.Texts.{Bytes}
+use Rattle.dcm_table.proofs.ValidRows.{listed}
 use Rattle.dcm_text.specs.declared.sets.Sets.{Sets}
-use Rattle.dcm_text.specs.Laws.{is_byte}
 use Rattle.dcm_value.specs.DecodedDisplay.{decoded_display, decoded_shortened, decoded_count, decoded_so_far}
 use Rattle.dcm_value.proofs.Displays.DecodedAsBefore.{low, low_ascii}
-use Rattle.dcm_value.proofs.Displays.DecodedUtf8.{decoded_text_is_utf8, decoded_so_far_is_utf8}
+use Rattle.dcm_value.proofs.Displays.DecodedUtf8.{decoded_text_is_utf8, decoded_so_far_is_utf8, low_utf8, padded_utf8, spaces_low}
 use Rattle.dcm_sinks.specs.DecodedDump.{is_decoded, text_line, decoded_line, decoded_open_value}
 use Rattle.dcm_text_laws.proofs.Numbers.{IsNumber, decimal_ascii, is_number, tag_ascii, value_ascii}
 use Rattle.dcm_text_laws.proofs.Keywords.{keyword_low, letters_low}
@@ -32,14 +32,6 @@ use Rattle.dcm_text_laws.proofs.Keywords.{keyword_low, letters_low}
 -- one text behind the other
 pub both : {a b : List ℕ} → IsUtf8 a → IsUtf8 b → IsUtf8 (a ++ b)
 both {a} {b} h k = IsUtf8-append a b h k
-
--- a text of ASCII, by a test
-pub low_utf8 : (bytes : List ℕ) → list_all low bytes ≡ true → IsUtf8 bytes
-low_utf8 bytes e = IsUtf8-from_ascii bytes (low_ascii bytes e)
-
-spaces_low : (n : ℕ) → list_all low (replicate n 32) ≡ true
-spaces_low zero = refl
-spaces_low (suc n) = spaces_low n
 
 spaces_utf8 : (n : ℕ) → IsUtf8 (replicate n 32)
 spaces_utf8 n = low_utf8 (replicate n 32) (spaces_low n)
@@ -53,9 +45,6 @@ length_utf8 Undefined = low_utf8 (codes "u/l") refl
 
 letters_utf8 : (vr : Vr) → IsUtf8 (letters vr)
 letters_utf8 vr = low_utf8 (letters vr) (letters_low vr)
-
-padded_utf8 : (shown : List ℕ) → IsUtf8 shown → IsUtf8 (padded shown)
-padded_utf8 shown h = both h (spaces_utf8 (40 - length shown))
 
 start_utf8 : (level : ℕ) (t : Tag) (vr : List ℕ) → IsTag t → IsUtf8 vr → IsUtf8 (line_start level t vr)
 start_utf8 level t vr h k =
@@ -104,20 +93,13 @@ shortened_ascii Short shown h = go (nat_lt 66 (length shown))
 number_utf8 : (mode : Mode) (vr : Vr) (v : List ℕ) → IsNumber (shape vr) → Bytes v → IsUtf8 (padded (shortened mode (display vr v)))
 number_utf8 mode vr v n h = padded_utf8 (shortened mode (display vr v)) (IsUtf8-from_ascii (shortened mode (display vr v)) (shortened_ascii mode (display vr v) (display_ascii vr v n h)))
 
-pub all_bytes : (v : List ℕ) → Bytes v → list_all is_byte v ≡ true
-all_bytes [] h = refl
-all_bytes (b ∷ v) h = both_true (is_byte b) (list_all is_byte v) (lt-ltb b 256 h.0) (all_bytes v h.1)
-  where
-    both_true : (x y : Bool) → x ≡ true → y ≡ true → (x && y) ≡ true
-    both_true x y e f = rw (e, f) refl
-
 pub leaf_utf8 : (d : Dictionary) (mode : Mode) (sets : Sets) (level : ℕ) (t : Tag) (vr : Vr) (v : List ℕ) → IsTag t → Bytes v → IsUtf8 (decoded_line d mode sets level t vr v)
 leaf_utf8 d mode sets level t vr v h k = go (is_decoded vr) refl
   where
     go : (x : Bool) → is_decoded vr ≡ x → IsUtf8 (if x then text_line d mode sets level t vr v else leaf_line d mode level t vr v)
     go true e =
         line_utf8 d level t (letters vr) (decoded_shortened mode (decoded_display vr sets v)) (Known (length v)) (decoded_count vr sets v) h (letters_utf8 vr)
-        (decoded_text_is_utf8 mode vr sets v (all_bytes v k))
+        (decoded_text_is_utf8 mode vr sets v (listed v k))
     go false e =
         line_utf8 d level t (letters vr) (shortened mode (display vr v)) (Known (length v)) (count vr v) h (letters_utf8 vr)
         (number_utf8 mode vr v (is_number (shape vr) e) k)
@@ -190,7 +172,7 @@ open_value_utf8 : (vr : Vr) (sets : Sets) (size : ℕ) (v : List ℕ) → Bytes 
 open_value_utf8 vr sets size v h = go (is_decoded vr) refl
   where
     go : (x : Bool) → is_decoded vr ≡ x → IsUtf8 (if x then decoded_so_far vr sets size v else shown_so_far (shape vr) vr size v)
-    go true e = decoded_so_far_is_utf8 vr sets size v (all_bytes v h)
+    go true e = decoded_so_far_is_utf8 vr sets size v (listed v h)
     go false e = so_far_utf8 vr size v (is_number (shape vr) e) h
 
 pub open_leaf_utf8 : (mode : Mode) (sets : Sets) (level : ℕ) (t : Tag) (vr : Vr) (size : ℕ) (v : List ℕ) → IsTag t → Bytes v → IsUtf8 (open_line mode (line_start level t (letters vr)) (decoded_open_value vr sets size v))

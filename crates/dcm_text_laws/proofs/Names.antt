@@ -1,18 +1,19 @@
 -- The names of files that are opened in memory are valid UTF-8, and so is what is shown of them.
-use Rattle.std.proofs.Common.{◌≡◌, ◌∙◌, ap, sym, refl, subst, ℕ, ◌+◌, ◌/◌, ◌%◌, ◌<◌, ◌≤◌, List, [], ◌∷◌, ◌++◌, length, take, flat_map, Bool, true, false, cond, Some, None, arith}
-use Rattle.std.specs.Prelude.{nat_lt, nat_le, ◌==◌, ◌&&◌, not, if◌then◌else◌, codes, bytes_eq, IsUtf8}
-use Rattle.std.specs.List.{list_any}
+use Rattle.std.proofs.Common.{◌≡◌, ◌∙◌, ap, sym, refl, subst, ℕ, ◌+◌, ◌/◌, ◌%◌, ◌<◌, ◌≤◌, List, [], ◌∷◌, ◌++◌, flat_map, Bool, true, false, cond, Some, None, arith}
+use Rattle.std.specs.Prelude.{nat_lt, if◌then◌else◌, codes, bytes_eq, IsUtf8}
 use Rattle.std.specs.Str.{is_utf8}
 use Rattle.std.specs.Option.{option_map}
 use Rattle.std.proofs.lemmas.Bool.{cases_lt, ltb-true}
 use Rattle.std.proofs.lemmas.Bool.Decides.{nat_tests}
-use Rattle.std.proofs.lemmas.List.{take_all}
 use Rattle.std.proofs.lemmas.Grind.{flat_map-append}
-use Rattle.std.proofs.lemmas.Slice.Eq.{bytes_eq-Decides}
 use Rattle.std.proofs.lemmas.Str.{IsUtf8-append, IsUtf8-nil, IsUtf8-encode, IsUtf8-from_ascii, IsUtf8-from_is_utf8, encode_ascii}
 use Rattle.std.proofs.lemmas.Str.Ascii.{IsAscii-nil, IsAscii-cons}
 use lib.Utf8.{scalar, scalars, encode, encodes, scalar_cases}
 use mathlib.Core.Logic.{⊎_elim}
+use Rattle.dcm_each.proofs.Names.{openable_whole}
+use Rattle.dcm_lemmas.proofs.Lists.{bytes_same}
+use Rattle.dcm_lemmas.proofs.Numbers.{not_below}
+use Rattle.dcm_lemmas.proofs.Truth.{and_parts}
 use Rattle.dcm_base.specs.Dump.ValueText.{lower, hex_byte}
 use Rattle.dcm_base.specs.Tables.Number.{AreBytes}
 use Rattle.dcm_base.proofs.DumpsBack.Numbers.{Bytes-append}
@@ -20,21 +21,13 @@ use Rattle.dcm_base.proofs.DumpsBack.Texts.{Bytes}
 use Rattle.dcm_files.specs.declared.memory.MemSystem.{MemSystem}
 use Rattle.dcm_files.specs.Devices.{standard}
 use Rattle.dcm_files.specs.Memory.{file_named}
-use Rattle.dcm_names.specs.Names.{NAME_LIMIT, can_be_opened, is_shown_by_number, shown_byte, shown_name}
+use Rattle.dcm_names.specs.Names.{can_be_opened, is_shown_by_number, shown_byte, shown_name}
 use Rattle.dcm_sinks.proofs.ReadBack.Sources.{a_byte}
 use Rattle.dcm_table.proofs.ValidTexts.{digit_low}
 use Rattle.dcm_cli.specs.InMemory.{bytes_at}
 use Rattle.dcm_each.specs.Each.{listed_path}
 use Rattle.dcm_each.specs.InMemory.{file_of}
 use Rattle.dcm_text_laws.specs.Laws.{HoldsBytes}
-
-pub both_true : (a b : Bool) → (a && b) ≡ true → (a ≡ true) × (b ≡ true)
-both_true true true e = (refl, refl)
-both_true true false e = cc
-both_true false b e = cc
-
-pub same_text : (a b : List ℕ) → bytes_eq a b ≡ true → a ≡ b
-same_text a b e = (bytes_eq-Decides a b).0 e
 
 -- ---- characters
 
@@ -56,7 +49,7 @@ encode_bytes c e = character_bytes (nat_lt c 128) (nat_lt c 2048) (nat_lt c 6553
 encodes_bytes : (cs : List ℕ) → scalars cs ≡ true → Bytes (encodes cs)
 encodes_bytes [] e = tt
 encodes_bytes (c ∷ cs) e =
-    let w = both_true (scalar c) (scalars cs) e in
+    let w = and_parts (scalar c) (scalars cs) e in
     Bytes-append (encode c) (encodes cs) (encode_bytes c w.0) (encodes_bytes cs w.1)
 
 -- a text has bytes
@@ -75,7 +68,7 @@ path_utf8 s path bytes e = by (bytes_eq path standard) (is_utf8 path) refl refl 
     by : (t u : Bool) → bytes_eq path standard ≡ t → is_utf8 path ≡ u
         → (if t then Some s.stdin.now else if u then option_map (λ f. f.bytes.now) (file_named s.files.now path) else None) ≡ Some bytes
         → IsUtf8 path
-    by true u p q e = subst IsUtf8 (sym (same_text path standard p)) dash_utf8
+    by true u p q e = subst IsUtf8 (sym (bytes_same path standard p)) dash_utf8
     by false true p q e = IsUtf8-from_is_utf8 path q
     by false false p q e = cc
 
@@ -90,7 +83,7 @@ pub listed_utf8 : (name : List ℕ) → IsUtf8 (listed_path name) → IsUtf8 nam
 listed_utf8 name h = by (bytes_eq name (codes "-")) refl h
   where
     by : (t : Bool) → bytes_eq name (codes "-") ≡ t → IsUtf8 (if t then codes "./-" else name) → IsUtf8 name
-    by true p h = subst IsUtf8 (sym (same_text name (codes "-") p)) dash_utf8
+    by true p h = subst IsUtf8 (sym (bytes_same name (codes "-") p)) dash_utf8
     by false p h = h
 
 -- what an opened file is called and what it has
@@ -133,12 +126,9 @@ wide_high false true v a b c d e f g h i j is = (omega arith, (omega arith, tt))
 wide_high false false true a b c d e f g h i j is = (omega arith, (omega arith, (omega arith, tt)))
 wide_high false false false a b c d e f g h i j is = (omega arith, (omega arith, (omega arith, (omega arith, tt))))
 
-not_low : (n m : ℕ) → m ≤ n → nat_lt n m ≡ false
-not_low n m h = grind (arith, nat_tests)
-
 encode_high : (c : ℕ) → 128 ≤ c → AllHigh (encode c)
 unfolding encode
-encode_high c h = wide_high (nat_lt c 128) (nat_lt c 2048) (nat_lt c 65536) c (c / 64) (c % 64) (c / 4096) (c / 64 % 64) (c % 64) (c / 262144) (c / 4096 % 64) (c / 64 % 64) (c % 64) (not_low c 128 h)
+encode_high c h = wide_high (nat_lt c 128) (nat_lt c 2048) (nat_lt c 65536) c (c / 64) (c % 64) (c / 4096) (c / 64 % 64) (c % 64) (c / 262144) (c / 4096 % 64) (c / 64 % 64) (c % 64) (not_below c 128 h)
 
 low_shown : (t : Bool) (c : ℕ) → c < 128 → IsUtf8 ((if t then 92 ∷ hex_byte c else c ∷ []) ++ [])
 low_shown true c h =
@@ -156,20 +146,12 @@ one_shown c e =
 all_shown : (cs : List ℕ) → scalars cs ≡ true → IsUtf8 (flat_map shown_byte (encodes cs))
 all_shown [] e = IsUtf8-nil
 all_shown (c ∷ cs) e =
-    let w = both_true (scalar c) (scalars cs) e in
+    let w = and_parts (scalar c) (scalars cs) e in
     subst IsUtf8 (sym (flat_map-append shown_byte (encode c) (encodes cs)))
     (IsUtf8-append (flat_map shown_byte (encode c)) (flat_map shown_byte (encodes cs)) (one_shown c w.0) (all_shown cs w.1))
-
-short_name : (name : List ℕ) → can_be_opened name ≡ true → take NAME_LIMIT name ≡ name
-short_name name e =
-    let w = both_true (nat_le (length name) NAME_LIMIT) (not (list_any (λ b. b == 0) name)) e in
-    take_all NAME_LIMIT name (below (length name) NAME_LIMIT w.0)
-  where
-    below : (n m : ℕ) → nat_le n m ≡ true → n ≤ m
-    below n m e = grind (arith, nat_tests)
 
 pub shown_utf8 : (name : List ℕ) → IsUtf8 name → can_be_opened name ≡ true → IsUtf8 (shown_name name)
 unfolding shown_name
 shown_utf8 name h e =
-    subst (λ x. IsUtf8 (flat_map shown_byte x)) (sym (short_name name e))
+    subst (λ x. IsUtf8 (flat_map shown_byte x)) (sym (openable_whole name e))
     (subst (λ x. IsUtf8 (flat_map shown_byte x)) h.1.1 (all_shown h.0 h.1.0))

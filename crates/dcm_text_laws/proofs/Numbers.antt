@@ -16,6 +16,7 @@ use Rattle.dcm_base.specs.Tree.Value.{number_of, pieces}
 use Rattle.dcm_base.proofs.DumpsBack.Texts.{Bytes}
 use Rattle.dcm_base.proofs.DumpsBack.Numbers.{Bytes-reverse}
 use Rattle.dcm_base.proofs.DumpsBack.Parts.{Bytes-take, Bytes-drop}
+use Rattle.dcm_table.proofs.ValidTexts.{digit_low}
 
 pub either : (t : Bool) (a b : List ℕ) → IsAscii a → IsAscii b → IsAscii (if t then a else b)
 either true a b h k = h
@@ -41,13 +42,6 @@ unfolding digits
 decimal_ascii n = onto_ascii 64 n [] IsAscii-nil
 
 -- ---- hexadecimal digits
-
-digit_low : (d : ℕ) → d < 16 → lower d < 128
-digit_low d h = go (nat_lt d 10)
-  where
-    go : (t : Bool) → (if t then 48 + d else 87 + d) < 128
-    go true = omega (arith, h)
-    go false = omega (arith, h)
 
 byte_ascii : (b : ℕ) → b < 256 → IsAscii (hex_byte b)
 byte_ascii b h = IsAscii-cons (lower (b / 16)) (lower (b % 16) ∷ []) (digit_low (b / 16) (omega (arith, h))) (IsAscii-cons (lower (b % 16)) [] (digit_low (b % 16) (omega arith)) IsAscii-nil)

@@ -15,8 +15,8 @@ use Rattle.dcm_base.specs.Reading.Reads.{INPUT_LIMIT, Reads, ended}
 use Rattle.dcm_base.specs.Reading.Stop.{Bar, Stop, complete, refused}
 use Rattle.dcm_base.proofs.Conversions.Order.{order_twice}
 use Rattle.dcm_base.proofs.DumpsBack.Texts.{Bytes}
-use Rattle.dcm_base.proofs.DumpsBack.Parts.{Bytes-take}
-use Rattle.dcm_sinks.proofs.ReadBack.Sources.{bytes_behind, bytes_parts, bytes_of_head, element_tag, enclosed_ready}
+use Rattle.dcm_base.proofs.DumpsBack.Parts.{Bytes-take, Bytes-drop}
+use Rattle.dcm_sinks.proofs.ReadBack.Sources.{bytes_parts, bytes_of_head, element_tag, enclosed_ready}
 use Rattle.dcm_editor.proofs.ReadBack.BytesRead.{order_bytes}
 use Rattle.dcm_cli.specs.Answer.{going_on}
 use Rattle.dcm_text_laws.proofs.Lines.{EachBytes, FragmentOfBytes}
@@ -26,7 +26,7 @@ ordered_bytes : (s : Syntax) (vr : Vr) (v : List ℕ) → Bytes (order s vr v) �
 ordered_bytes s vr v h = subst Bytes (order_twice s vr v) (order_bytes s vr (order s vr v) h)
 
 behind_item : (s : Syntax) (l : Length) (b c : List ℕ) → ItemHead s l b c → Bytes b → Bytes c
-behind_item s l b c head h = subst Bytes (sym head.after_is) (bytes_behind 8 b h)
+behind_item s l b c head h = subst Bytes (sym head.after_is) (Bytes-drop 8 b h)
 
 fragments_read : (s : Syntax) (values : List (List ℕ)) (b p : List ℕ) → FragmentsAt s values b p → Bytes b → EachBytes values × Bytes p
 unfolding FragmentsAt

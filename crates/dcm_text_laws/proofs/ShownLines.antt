@@ -1,49 +1,28 @@
 -- What the line of a text shows in a dump by characters.
-use Rattle.std.proofs.Common.{◌≡◌, ◌∙◌, ap, sym, refl, ℕ, ◌+◌, List, [], ◌∷◌, ◌++◌, append_assoc, length, Bool, true, false, not, ◌||◌, if◌then◌else◌}
+use Rattle.std.proofs.Common.{◌≡◌, ◌∙◌, ap, sym, refl, ℕ, ◌+◌, List, [], ◌∷◌, ◌++◌, append_assoc, length, Bool, true, false, if◌then◌else◌}
 use Rattle.std.specs.Prelude.{codes}
-use Rattle.std.specs.List.{list_all}
 use Rattle.dcm_base.specs.declared.tag.Tag.{Tag}
 use Rattle.dcm_base.specs.declared.vr.Vr.{Vr}
 use Rattle.dcm_base.specs.declared.vr.Vr.TheVariants.{LO, LT, PN, SH, ST, UC, UT}
 use Rattle.dcm_base.specs.declared.mode.Mode.{Mode}
 use Rattle.dcm_base.specs.declared.mode.Mode.TheVariants.{Full}
-use Rattle.dcm_base.specs.declared.length.Length.{Length}
 use Rattle.dcm_base.specs.declared.length.Length.TheVariants.{Known, Undefined}
 use Rattle.dcm_base.specs.declared.dictionary.Dictionary.{Dictionary}
 use Rattle.dcm_base.specs.Tables.Representation.{letters}
 use Rattle.dcm_base.specs.Tree.Tree.{Trees, no_tree, leaf, sequence, fragments, then_trees}
-use Rattle.dcm_base.specs.Dump.Dump.{line, line_start, leaf_line, fragment_lines, sequence_line, sequence_end_line}
-use Rattle.dcm_base.specs.Dump.ValueText.{display, shortened, unpadded}
+use Rattle.dcm_base.specs.Dump.Dump.{line, leaf_line, fragment_lines, sequence_line, sequence_end_line}
+use Rattle.dcm_base.specs.Dump.ValueText.{unpadded}
+use Rattle.dcm_sinks.proofs.DecodedDumps.PlainTexts.{line_of_ascii as text_of_ascii}
 use Rattle.dcm_text.specs.declared.sets.Sets.{Sets}
-use Rattle.dcm_text.specs.Laws.{is_plain}
 use Rattle.dcm_text.specs.Shown.{dumped}
 use Rattle.dcm_text.proofs.Displays.{utf8_dump}
-use Rattle.dcm_value.specs.DecodedDisplay.{decoded_display, decoded_shortened, decoded_count}
+use Rattle.dcm_value.specs.DecodedDisplay.{decoded_count}
 use Rattle.dcm_value.specs.DecodedProgress.{decoded_identified, is_concerned, is_named, kind_of, sets_for}
-use Rattle.dcm_value.proofs.Displays.DecodedAsBefore.{decoded_as_before}
 use Rattle.dcm_sinks.specs.InForce.{set_by, sets_after}
 use Rattle.dcm_sinks.specs.DecodedDump.{is_decoded, text_line, decoded_line, decoded_set, decoded_items}
-use Rattle.dcm_sinks.specs.Layout.{line_rest}
-use Rattle.dcm_sinks.specs.PlainTexts.{is_value_of}
-use Rattle.dcm_sinks.proofs.Dumps.LineParts.{line_in_parts}
 use Rattle.dcm_text_laws.specs.ShownLines.{DisplayOfUtf8, IsShownAsItIs, LineOfAscii, LineOfAsciiAmongOthers, LineOfUtf8}
 
 -- ---- ASCII
-
-is_ascii : (a b : Bool) → a ≡ true → (not a || b) ≡ true → b ≡ true
-is_ascii true b e f = f
-is_ascii false b e f = absurd cc
-
-text_of_ascii : (d : Dictionary) (mode : Mode) (sets : Sets) (level : ℕ) (tag : Tag) (vr : Vr) (v : List ℕ) → is_decoded vr ≡ true → is_value_of is_plain sets vr v ≡ true
-    → text_line d mode sets level tag vr v ≡ leaf_line d mode level tag vr v
-text_of_ascii d mode sets level tag vr v is plain =
-    let same = decoded_as_before mode vr sets v is (is_ascii (is_decoded vr) (list_all (is_plain (sets_for vr sets)) (unpadded vr v)) is plain) in
-    let start : List ℕ = line_start level tag (letters vr) in
-    let n : Length = Known (length v) in
-    line_in_parts d level tag (letters vr) (decoded_shortened mode (decoded_display vr sets v)) n (decoded_count vr sets v)
-    ∙ ap (λ (z : List ℕ). start ++ (z ++ line_rest d tag n (decoded_count vr sets v))) same.0
-    ∙ sym (line_in_parts d level tag (letters vr) (shortened mode (display vr v)) n (decoded_count vr sets v))
-    ∙ ap (λ (k : ℕ). line d level tag (letters vr) (shortened mode (display vr v)) n k) same.1
 
 pub line_of_ascii : LineOfAscii
 line_of_ascii d mode sets level tag vr v plain = by_test (is_decoded vr) refl

@@ -7,6 +7,9 @@ use Rattle.std.specs.Str.{byte}
 use Rattle.std.proofs.lemmas.Bool.Decides.{nat_tests}
 use Rattle.std.proofs.lemmas.List.Elements.{All-nil, All-cons, All-head, All-tail}
 use Rattle.std.proofs.lemmas.Str.{IsUtf8-nil}
+use Rattle.dcm_lemmas.proofs.Lists.{bytes_same}
+use Rattle.dcm_lemmas.proofs.Options.{some_is}
+use Rattle.dcm_lemmas.proofs.Truth.{and_both, and_parts}
 use Rattle.dcm_base.specs.declared.tag.Tag.{Tag}
 use Rattle.dcm_base.specs.declared.vr.Vr.{Vr}
 use Rattle.dcm_base.specs.declared.dictionary.Dictionary.TheVariants.{Standard}
@@ -27,7 +30,9 @@ use Rattle.dcm_table.specs.Row.{comma, newline, header_cell}
 use Rattle.dcm_table.proofs.ValidTexts.{quoted_valid}
 use Rattle.dcm_table_words.specs.declared.usage.TableUsage.{TableUsage}
 use Rattle.dcm_table_words.specs.declared.usage.TableUsage.TheVariants.{InColumn, NumberOfColumns, AtWord}
-use Rattle.dcm_table_words.specs.Keywords.{tag_called}
+use Rattle.dcm_edits.specs.EditWords.{or_refuse}
+use Rattle.dcm_edits.specs.TagWords.{tag_called, tag_named}
+use Rattle.dcm_table_words.specs.declared.saying.Tool.TheVariants.{Table as a_table}
 use Rattle.dcm_table_words.specs.Table as words
 use Rattle.dcm_each.specs.Each.{listed_path}
 use Rattle.dcm_each.specs.InMemory.{file_of}
@@ -37,8 +42,9 @@ use Rattle.dcm_tables.specs.TableProgram.{column_of, form_of}
 use Rattle.dcm_tables.proofs.RowBytes.{rows_valid}
 use Rattle.dcm_text_laws.specs.Laws.{HoldsBytes, TableIsUtf8}
 use Rattle.dcm_text_laws.proofs.Keywords.{keyword_low}
-use Rattle.dcm_text_laws.proofs.Lines.{both, low_utf8}
-use Rattle.dcm_text_laws.proofs.Names.{IsOpened, both_true, file_opened, listed_opened, same_text, text_bytes}
+use Rattle.dcm_text_laws.proofs.Lines.{both}
+use Rattle.dcm_text_laws.proofs.Names.{IsOpened, file_opened, listed_opened, text_bytes}
+use Rattle.dcm_value.proofs.Displays.DecodedUtf8.{low_utf8}
 
 -- ---- rows
 
@@ -96,14 +102,11 @@ digit_low c d p =
     below : (c : ℕ) → nat_lt (digit_value c) 16 ≡ true → nat_lt c 128 ≡ true
     below c e = grind (arith, nat_tests)
 
-and_true : (x y : Bool) → x ≡ true → y ≡ true → (x && y) ≡ true
-and_true x y e f = rw (e, f) refl
-
 number_low : (so_far : ℕ) (cs : List ℕ) (n : ℕ) → number_in 16 so_far cs ≡ Some n → list_all low cs ≡ true
 number_low so_far [] n p = refl
 number_low so_far (c ∷ cs) n p =
     let w = bind_some (digit 16 c) _ n p in
-    and_true (low c) (list_all low cs) (digit_low c w.0 w.1) (number_low (so_far * 16 + w.0) cs n w.2)
+    and_both (low c) (list_all low cs) (digit_low c w.0 w.1) (number_low (so_far * 16 + w.0) cs n w.2)
 
 hex_low : (cs : List ℕ) (n : ℕ) → hex_number 4 cs ≡ Some n → list_all low cs ≡ true
 hex_low cs n p = number_low 0 cs n (if_some (length cs == 4) (number_in 16 0 cs) n p).1
@@ -112,11 +115,11 @@ all_cut : (n : ℕ) (cs : List ℕ) → list_all low (take n cs) ≡ true → li
 all_cut zero cs e f = f
 all_cut (suc n) [] e f = refl
 all_cut (suc n) (c ∷ cs) e f =
-    let w = both_true (low c) (list_all low (take n cs)) e in
-    and_true (low c) (list_all low cs) w.0 (all_cut n cs w.1 f)
+    let w = and_parts (low c) (list_all low (take n cs)) e in
+    and_both (low c) (list_all low cs) w.0 (all_cut n cs w.1 f)
 
 same_low : (cs sign : List ℕ) → bytes_eq cs sign ≡ true → list_all low sign ≡ true → list_all low cs ≡ true
-same_low cs sign e f = subst (λ (x : List ℕ). list_all low x ≡ true) (sym (same_text cs sign e)) f
+same_low cs sign e f = subst (λ (x : List ℕ). list_all low x ≡ true) (sym (bytes_same cs sign e)) f
 
 four_true : (a b c d : Bool) → (a && b && c && d) ≡ true → (b ≡ true) × (c ≡ true) × (d ≡ true)
 four_true true true true true e = (refl, refl, refl)
@@ -150,23 +153,27 @@ LowColumn c = LowNumber c.number
 ok_is : {A E : Type 0} (x y : A) → (let r : Result A E = Ok x in r ≡ Ok y) → x ≡ y
 ok_is x y e = cc
 
-numbered_low : (w : List ℕ) (c : words.Column) (o : Option Tag) → tag_of_text w ≡ o
-    → words.or_refusal BadOption (option_map (λ t. record { tag = t; number = Some w }) o) ≡ Ok c → LowColumn c
-numbered_low w c (Some t) p e = subst LowColumn (ok_is _ c e) (tag_low w t p)
-numbered_low w c None p e = cc
+named_is : (refusal : EditRefusal) (o : Option Tag) (t : Tag) → or_refuse refusal o ≡ Ok t → o ≡ Some t
+named_is refusal None t e = absurd cc
+named_is refusal (Some u) t e = ap Some (ok_is u t e)
 
-called_low : (w : List ℕ) (c : words.Column) (o : Option Tag)
-    → words.or_refusal UnknownTag (option_map (λ t. record { tag = t; number = None }) o) ≡ Ok c → LowColumn c
-called_low w c (Some t) e = subst LowColumn (ok_is _ c e) tt
-called_low w c None e = cc
+named_low : (w : List ℕ) (t : Tag) → tag_named w ≡ Ok t → LowNumber (words.number_of w)
+named_low [] t e = absurd cc
+named_low (b ∷ w) t e = by (b == byte "(") e
+  where
+    by : (c : Bool) → (if c then or_refuse BadOption (tag_of_text (b ∷ w)) else or_refuse UnknownTag (tag_called (b ∷ w))) ≡ Ok t
+        → LowNumber (if c then Some (b ∷ w) else None)
+    by true e = tag_low (b ∷ w) t (named_is BadOption (tag_of_text (b ∷ w)) t e)
+    by false e = tt
 
 column_low : (w : List ℕ) (c : words.Column) → words.column_of w ≡ Ok c → LowColumn c
-column_low [] c e = cc
-column_low (b ∷ w) c e = by (b == byte "(") e
+column_low w c e = by (tag_named w) refl e
   where
-    by : (t : Bool) → (if t then words.or_refusal BadOption (words.numbered_column (b ∷ w)) else words.or_refusal UnknownTag (words.called_column (b ∷ w))) ≡ Ok c → LowColumn c
-    by true e = numbered_low (b ∷ w) c (tag_of_text (b ∷ w)) refl e
-    by false e = called_low (b ∷ w) c (tag_called (b ∷ w)) e
+    by : (r : Result Tag EditRefusal) → tag_named w ≡ r
+        → (let column : Result words.Column EditRefusal = elim r [ Ok tag ↦ Ok (record { tag = tag; number = words.number_of w }) | Err refusal ↦ Err refusal ] in column ≡ Ok c)
+        → LowColumn c
+    by (Ok t) is e = subst LowColumn (ok_is _ c e) (named_low w t is)
+    by (Err refusal) is e = absurd cc
 
 one_more : (n : ℕ) (r : Result words.Column EditRefusal) (q : Result (List words.Column) TableUsage) (cs : List words.Column)
     → ((c : words.Column) → r ≡ Ok c → LowColumn c) → ((others : List words.Column) → q ≡ Ok others → All LowColumn others)
@@ -225,8 +232,8 @@ unfolding words.meant_table
 table_low [] t e = absurd cc
 table_low (tool ∷ ws) t e = by (bytes_eq tool (codes "dcm2csv")) e
   where
-    by : (b : Bool) → (if b then words.table_said (words.sayings ws) else Err (AtWord UnknownTool 1)) ≡ Ok t → All LowColumn t.columns
-    by true e = meant_low (words.sayings ws) t.columns (said_columns (words.sayings ws) t e)
+    by : (b : Bool) → (if b then words.table_said (words.sayings a_table ws) else Err (AtWord UnknownTool 1)) ≡ Ok t → All LowColumn t.columns
+    by true e = meant_low (words.sayings a_table ws) t.columns (said_columns (words.sayings a_table ws) t e)
     by false e = absurd cc
 
 -- ---- the header
@@ -253,9 +260,6 @@ header_utf8 false cs h = IsUtf8-nil
 header_utf8 true cs h = both (quoted_valid (codes "File") (low_utf8 (codes "File") refl)) (both (columns_utf8 cs h) (low_utf8 newline refl))
 
 -- ---- tables
-
-some_is : {A : Type 0} (x y : A) → (let o : Option A = Some x in o ≡ Some y) → x ≡ y
-some_is x y e = cc
 
 outcome_utf8 : (s : MemSystem) (t : words.Table) (o : TableOutcome) (parts : List Part) (text : List ℕ) → HoldsBytes s → is_valid_form (form_of t.texts) ≡ true
     → All LowColumn t.columns → TableComesBy s (Ok t) o → o.parts ≡ Some parts → SpellsParts parts text → IsUtf8 text

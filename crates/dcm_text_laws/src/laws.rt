@@ -2,11 +2,13 @@
 ghost use Rattle.dcm_text_laws.specs.Laws.{AnswerIsUtf8, DumpsAreUtf8, DumpsEndStands, DumpsSoFarAreUtf8, SureIsUtf8};
 ghost use Rattle.dcm_text_laws.specs.Laws.{TableEndStands, TableIsUtf8, TableSoFarIsUtf8};
 ghost use Rattle.dcm_text_laws.specs.Left.{DumpGrowsByUtf8, DumpsGrowByUtf8, HeaderIsUtf8, RowGrowsByUtf8};
-ghost use Rattle.dcm_text_laws.specs.Left.{TableGrowsByUtf8};
+ghost use Rattle.dcm_text_laws.specs.Left.{GivesBytes, TableGrowsByUtf8};
+ghost use Rattle.dcm_tables.specs.OverStd.{std_reader};
 ghost use Rattle.dcm_text_laws.specs.ShownLines.{DisplayOfUtf8, LineOfAscii, LineOfAsciiAmongOthers, LineOfUtf8};
 
 use dcm_base::DeviceOut;
 use dcm_files::System;
+use std::io::Read;
 
 /// What `dcmdump +u8` writes of a file, or of a data set alone, is valid UTF-8, whatever its bytes are. So is what
 /// stands written while more bytes may come.
@@ -39,6 +41,12 @@ pub fn table_is_utf8<S: System, W: DeviceOut>()
     ensures header { HeaderIsUtf8 }
     ensures left_of_row { RowGrowsByUtf8 S.Input.DeviceIn W.DeviceOut }
     ensures left_of_all { TableGrowsByUtf8 S.may_do S.Input.DeviceIn W.DeviceOut }
+{}
+
+/// The readers of the program give bytes: they are devices over readers of the standard library. So what `dumps_are_utf8`
+/// and `table_is_utf8` say over any system holds of the program.
+pub fn program_gives_bytes<T: Read>()
+    ensures { GivesBytes (std_reader T.remaining) }
 {}
 
 /// The line of a text of bytes below 80 that designates nothing is in a dump by characters what it is in one without.

@@ -1,5 +1,6 @@
 -- Two trees with the same outputs that are changed in the same way.
 use Rattle.std.proofs.Common.{◌≡◌, ◌∙◌, refl, sym, ap, subst, inl, inr, ◌⊎◌, ℕ, List, Option, Some, None}
+use Rattle.dcm_lemmas.proofs.Options.{none_or_some}
 use Rattle.dcm_files.specs.declared.folders.Found.{Found}
 use Rattle.dcm_trees.specs.Place.{end_of_found, end_at, place_of_found, place_at}
 use Rattle.dcm_tree_laws.specs.FileSystem.{Tree, Host, number_of, place_of}
@@ -80,11 +81,8 @@ then_keeps t u v first second = record {
   bytes = λ place f is. second.bytes place f (first.there place f is) ∙ first.bytes place f is;
 }
 
-none_or : (o : Option Found) (f : Found) → o ≡ None → o ≡ Some f → ⊥
-none_or o f none some = absurd (cc)
-
 kept_at : (t u : Tree) (place other : List ℕ) (f : Found) → t.at place ≡ None → t.at other ≡ Some f → (other ≡ place) ⊎ (u.at other ≡ t.at other) → u.at other ≡ Some f
-kept_at t u place other f none is (inl e) = absurd (none_or (t.at place) f none (ap t.at (sym e) ∙ is))
+kept_at t u place other f none is (inl e) = absurd (none_or_some (t.at place) f none (ap t.at (sym e) ∙ is))
 kept_at t u place other f none is (inr e) = e ∙ is
 
 pub new_keeps : (place : List ℕ) (what : Option Found) (t u : Tree) → t.at place ≡ None → Changes place what t u → Keeps t u

@@ -2,6 +2,7 @@
 use Rattle.std.proofs.Common.{◌≡◌, ◌∙◌, refl, sym, ap, subst, inl, inr, ◌⊎◌, ℕ, ◌+◌, ◌≤◌, List, [], ◌∷◌, ◌++◌, length, take, drop, Option, Some, None, Result, Ok, arith, length-append}
 use Rattle.std.specs.Prelude.{◌≢◌, codes, true}
 use Rattle.std.proofs.lemmas.List.{length-take, length-drop}
+use Rattle.dcm_lemmas.proofs.Options.{none_or_some}
 use Rattle.dcm_devices.specs.Writing.{Writer}
 use Rattle.dcm_files.specs.Folders.{FoldersDo}
 use Rattle.dcm_files.specs.declared.folders.Found.{Found}
@@ -25,8 +26,8 @@ use Rattle.dcm_trees.specs.Tree.{VisitsAll}
 use Rattle.dcm_trees.specs.Work.{visits_of}
 use Rattle.dcm_trees.specs.World.{world}
 use Rattle.dcm_tree_laws.specs.Again.{OfAll}
-use Rattle.dcm_tree_laws.specs.Course.{IsMade, Ready}
-use Rattle.dcm_tree_laws.specs.FileSystem.{FileSystem, Tree, Host, number_of, place_of, may_do, folders_do}
+use Rattle.dcm_tree_laws.specs.Course.{IsMade, IsCleared, Ready}
+use Rattle.dcm_tree_laws.specs.FileSystem.{FileSystem, Tree, Host, number_of, place_of, at_path, may_do, folders_do}
 use Rattle.dcm_tree_laws.specs.Laws.{IsOutput, part_path}
 use Rattle.dcm_tree_laws.specs.OneRow.{FolderHasRows}
 use Rattle.dcm_tree_laws.specs.Rows.{Visit, noted}
@@ -48,7 +49,8 @@ use Rattle.dcm_tree_laws.proofs.Works.{allows_same, visits_name}
 telling_may : {I O F : Type 0} (h : Host I O) (gives : F → List (List ℕ)) → Implies (telling h gives) (folders_do {F = F} h)
 telling_may h gives = record {
   sees = λ before path links r after call. call;
-  folder = λ before path r after call. call;
+  modes = λ before folder name r after call. call;
+  folder = λ before path mode r after call. call;
   file = λ before path mode r after call. call;
   link = λ before from to r after call. call;
 }
@@ -56,7 +58,8 @@ telling_may h gives = record {
 listing_may : {I O F : Type 0} (h : Host I O) (gives : F → List (List ℕ)) → Implies (listing h gives) (folders_do {F = F} h)
 listing_may h gives = record {
   sees = λ before path links r after call. call.0;
-  folder = λ before path r after call. call;
+  modes = λ before folder name r after call. call.0;
+  folder = λ before path mode r after call. call;
   file = λ before path mode r after call. call;
   link = λ before from to r after call. call;
 }
@@ -64,6 +67,7 @@ listing_may h gives = record {
 pub telling_quiet : {I O F : Type 0} (h : Host I O) (gives : F → List (List ℕ)) → Quiet (telling h gives)
 telling_quiet {I} {O} {F} h gives = record {
   finds = λ before path links r after call. call.1;
+  modes = λ before folder name r after call. call.1;
   opens = λ before path r after call. call.0;
   names = λ before folder r left after call. call.0;
   closes = λ before folder after call. call;
@@ -72,6 +76,7 @@ telling_quiet {I} {O} {F} h gives = record {
 pub listing_quiet : {I O F : Type 0} (h : Host I O) (gives : F → List (List ℕ)) → Quiet (listing h gives)
 listing_quiet {I} {O} {F} h gives = record {
   finds = λ before path links r after call. call.0.1;
+  modes = λ before folder name r after call. call.0.1;
   opens = λ before path r after call. call.0.0;
   names = λ before folder r left after call. call.0.0;
   closes = λ before folder after call. call;
@@ -103,16 +108,10 @@ listing_tells h gives = record {
 
 -- ---- what was there at the start
 
-only_kept : {I O : Type 0} (h : Host I O) (output : List ℕ) (t u : Tree) (place : List ℕ) (f : Found) → t.at place ≡ Some f → (u.at place ≡ t.at place) ⊎ IsMade h output place t u → u.at place ≡ Some f
-only_kept h output t u place f is (inl same) = same ∙ is
-only_kept h output t u place f is (inr made) = absurd (let no : Some f ≡ None = sym is ∙ made.nothing in cc)
-
-none_then : (o now : Option Found) → ((f : Found) → o ≡ Some f → now ≡ Some f) → now ≡ None → o ≡ None
-none_then None now kept none = refl
-none_then (Some f) now kept none = absurd (let no : Some f ≡ None = sym (kept f refl) ∙ none in cc)
-
-none_or_some : (o : Option Found) (f : Found) → o ≡ None → o ≡ Some f → ⊥
-none_or_some o f e g = absurd (cc)
+only_kept : {I O : Type 0} (h : Host I O) (output part : List ℕ) (t u : Tree) (place : List ℕ) (f : Found) → t.at place ≡ Some f → place ≢ place_of h part → (u.at place ≡ t.at place) ⊎ (IsMade h output place t u ⊎ IsCleared h part place t u) → u.at place ≡ Some f
+only_kept h output part t u place f is apart (inl same) = same ∙ is
+only_kept h output part t u place f is apart (inr (inl made)) = absurd (let no : Some f ≡ None = sym is ∙ made.nothing in cc)
+only_kept h output part t u place f is apart (inr (inr cleared)) = absurd (apart cleared.of_part)
 
 -- ---- the states of a run
 
@@ -139,19 +138,18 @@ visit_good {I} {O} {F} {W} {E} h d can start r w e m shared of_output from befor
     }
 
 -- at the start nothing is at the part
-none_at_part : {I O : Type 0} (h : Host I O) (run : TreeRun) (start : Tree) (begun : Begun) (before : FileSystem) (shared : Shared) → Ready h run start begun before → Shares run begun.part.items shared → start.at (place_of h (manner_of shared.manner).part) ≡ None
-none_at_part h run start begun before shared ready shares =
+none_at_part : {I O : Type 0} (h : Host I O) (run : TreeRun) (start : Tree) (begun : Begun) (before : FileSystem) (shared : Shared) → Ready h run start begun before → at_path h start (part_path run) ≡ None → Shares run begun.part.items shared → start.at (place_of h (manner_of shared.manner).part) ≡ None
+none_at_part h run start begun before shared ready nothing shares =
     subst (λ (k : Manner). start.at (place_of h k.part) ≡ None) (sym shares.manner)
-    (subst (λ (p : List ℕ). start.at (place_of h p) ≡ None) (sym ready.part_is)
-    (none_then (start.at (place_of h (part_path run))) (before.now.at (place_of h (part_path run)))
-    (λ f is. only_kept h run.output.now start before.now (place_of h (part_path run)) f is (ready.only.names (place_of h (part_path run)))) ready.no_part))
+    (subst (λ (p : List ℕ). start.at (place_of h p) ≡ None) (sym ready.part_is) nothing)
 
-first_good : {I O W E : Type 0} (h : Host I O) (run : TreeRun) (start : Tree) (begun : Begun) (before : FileSystem) (first : Work W) (from : E) → Ready h run start begun before → Good h start first.shared (first, from) before
-first_good h run start begun before first from ready = record {
+first_good : {I O W E : Type 0} (h : Host I O) (run : TreeRun) (start : Tree) (begun : Begun) (before : FileSystem) (first : Work W) (from : E) → Ready h run start begun before → Shares run begun.part.items first.shared → Good h start first.shared (first, from) before
+first_good h run start begun before first from ready shares = record {
   same = refl;
   none = ready.written;
   still = record {
-    there = λ place f apart is. only_kept h run.output.now start before.now place f is (ready.only.names place);
+    there = λ place f apart is. only_kept h run.output.now (part_path run) start before.now place f is
+        (subst (λ (p : List ℕ). place ≢ place_of h p) (ap (λ (k : Manner). k.part) shares.manner ∙ ready.part_is) apart) (ready.only.names place);
     bytes = λ place f apart is. ready.only.bytes (number_of f);
   };
 }
@@ -218,29 +216,29 @@ module _ (root relative : List ℕ) (fits : length (below root relative) ≤ PAT
 -- ---- a run
 
 met_in_run : {I O F W E : Type 0} (r : Reader I) (w : Writer O) (m : Writer W) (e : Writer E) (h : Host I O) (gives : F → List (List ℕ)) (Failed : Type 0) (d : FoldersDo FileSystem O F) → Tells h gives Failed d → Implies d (folders_do h)
-    → (run : TreeRun) (start : Tree) (path : List ℕ) (begun : Begun) (opened : F) (headed : W) (from : E) (before : FileSystem) (status : ℕ) (left : W) (to : E) (after : FileSystem) → GivesAll h gives start path opened → Ready h run start begun before
+    → (run : TreeRun) (start : Tree) (path : List ℕ) (begun : Begun) (opened : F) (headed : W) (from : E) (before : FileSystem) (status : ℕ) (left : W) (to : E) (after : FileSystem) → GivesAll h gives start path opened → Ready h run start begun before → at_path h start (part_path run) ≡ None
     → (v : VisitsAll (world (may_do h) d r w e) m run path begun opened headed from before status left to after) → v.last.stop ≡ None → (has : FolderHasRows (world (may_do h) d r w e) m run path begun opened headed from before status left to after v)
     → (relative : List ℕ) (lies : LiesBelow h begun.number start path relative) → Met Failed (length path + 1) (below path relative) lies.file.file.mode (IsAside (length path + 1) path (below path relative)) has.visits
-met_in_run {I} {O} {F} {W} {E} r w m e h gives Failed d tells can run start path begun opened headed from before status left to after all ready v stop has relative lies =
+met_in_run {I} {O} {F} {W} {E} r w m e h gives Failed d tells can run start path begun opened headed from before status left to after all ready nothing v stop has relative lies =
     let shared : Shared = v.start.shared in
     let walker : Walk = record { base = length path + 1; output = begun.number } in
     let near : IsNear (manner_of shared.manner).output (manner_of shared.manner).part = subst (λ (k : Manner). IsNear k.output k.part) (sym v.begins.shares.manner) (part_of_output run begun.part.items ready.part_is) in
-    let none : start.at (place_of h (manner_of shared.manner).part) ≡ None = none_at_part h run start begun before shared ready v.begins.shares in
+    let none : start.at (place_of h (manner_of shared.manner).part) ≡ None = none_at_part h run start begun before shared ready nothing v.begins.shares in
     let walks : WalksFolder d (noted (visits_of (world (may_do h) d r w e) m)) path begun.number opened ((v.start, from), []) before (Ok _) ((v.last, v.told), has.visits) after =
     subst (λ (x : Result (Unit {0}) Stopped). WalksFolder d (noted (visits_of (world (may_do h) d r w e) m)) path begun.number opened ((v.start, from), []) before x ((v.last, v.told), has.visits) after)
     (ends_well (world (may_do h) d r w e) m path begun.number opened (v.start, from) before v.walked (v.last, v.told) after stop v.walks) has.walks in
     let added : Added (Good h start shared) (Met Failed walker.base (below path relative) lies.file.file.mode (IsAside walker.base path (below path relative))) ((v.start, from), []) ((v.last, v.told), has.visits) after =
     folder_met h gives Failed d tells (visits_of (world (may_do h) d r w e) m) start walker (Good h start shared) (visit_good h d can start r w e m shared near) (stays_there h start shared none) LEVELS path relative lies.file.file.mode (cut relative)
     (reaches h begun.number start path relative lies) (record { name = codes "."; relative = codes "."; path = path }) (inr refl) refl opened start (λ place f is. is) all ((v.start, from), []) before ((v.last, v.told), has.visits) after
-    (first_good h run start begun before v.start from ready) walks in
+    (first_good h run start begun before v.start from ready v.begins.shares) walks in
     subst (Met Failed walker.base (below path relative) lies.file.file.mode (IsAside walker.base path (below path relative))) (sym added.is) added.so
 
 pub files_are_visited : {I O F W E : Type 0} (r : Reader I) (w : Writer O) (m : Writer W) (e : Writer E) → FilesAreVisited F r w m e
-files_are_visited {I} {O} {F} {W} {E} r w m e h gives run start path begun opened headed from before status left to after all ready v stop has relative lies =
+files_are_visited {I} {O} {F} {W} {E} r w m e h gives run start path begun opened headed from before status left to after all ready nothing v stop has relative lies =
     is_once path relative lies.fits lies.leads lies.file.file.mode has.visits
-    (met_in_run r w m e h gives ⊥ (listing h gives) (listing_tells h gives) (listing_may h gives) run start path begun opened headed from before status left to after all ready v stop has relative lies)
+    (met_in_run r w m e h gives ⊥ (listing h gives) (listing_tells h gives) (listing_may h gives) run start path begun opened headed from before status left to after all ready nothing v stop has relative lies)
 
 pub files_are_told : {I O F W E : Type 0} (r : Reader I) (w : Writer O) (m : Writer W) (e : Writer E) → FilesAreTold F r w m e
-files_are_told {I} {O} {F} {W} {E} r w m e h gives run start path begun opened headed from before status left to after all ready v stop has relative lies =
+files_are_told {I} {O} {F} {W} {E} r w m e h gives run start path begun opened headed from before status left to after all ready nothing v stop has relative lies =
     is_told path relative lies.fits lies.leads lies.file.file.mode has.visits
-    (met_in_run r w m e h gives (Unit {0}) (telling h gives) (telling_tells h gives) (telling_may h gives) run start path begun opened headed from before status left to after all ready v stop has relative lies)
+    (met_in_run r w m e h gives (Unit {0}) (telling h gives) (telling_tells h gives) (telling_may h gives) run start path begun opened headed from before status left to after all ready nothing v stop has relative lies)

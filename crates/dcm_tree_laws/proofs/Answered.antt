@@ -1,11 +1,14 @@
 -- What an output took of a job that was done is the answer to what its input had to give.
 use Rattle.std.proofs.Common.{◌≡◌, ◌∙◌, refl, sym, ap, subst, inl, inr, ℕ, List, [], ◌++◌, Bool, true, false, Option, Some, None, length}
 use Rattle.std.specs.Io.KnownBytes.{append_known}
+use Rattle.dcm_cli.proofs.Runs.Ran.{output_is as answer_output}
+use Rattle.dcm_lemmas.proofs.Options.{some_same}
+use Rattle.dcm_lemmas.proofs.Truth.{true_false}
 use Rattle.dcm_base.specs.Lines.Build as build
 use Rattle.dcm_base.specs.declared.fault.LineStop.{LineStop}
 use Rattle.dcm_devices.specs.Writing.{Writer}
-use Rattle.dcm_words.specs.Words.{Job, dump, dump_decoded, convert, build as building, modify, deidentify}
-use Rattle.dcm_cli.specs.Answer.{Answer, Answers, ReadAnswers, Source, unopened, file, alone, answer, output_of, built_answer}
+use Rattle.dcm_words.specs.Words.{Job, dump, dump_decoded, dump_named, convert, build as building, modify, deidentify}
+use Rattle.dcm_cli.specs.Answer.{Answer, Answers, ReadAnswers, answer, built_answer}
 use Rattle.dcm_cli.specs.Calls.{Reader, Finishes}
 use Rattle.dcm_cli.specs.InputCalls.{IsUndecided}
 use Rattle.dcm_cli.specs.Run as run
@@ -25,11 +28,6 @@ pub record Gives (job : Job) (input out : List ℕ) : Type 0 where
   pub answers : Answers job input a
   pub output_is : out ≡ a.output
 
-answer_output : (job : Job) (source : Source) → output_of job source ≡ (answer job source).output
-answer_output job (unopened fault offset) = refl
-answer_output job (file meta coding set stop) = refl
-answer_output job (alone syntax set stop) = refl
-
 read_gives : (job : Job) (input out : List ℕ) (verdict : Verdict) → ((a : Answer) → ReadAnswers job input a → Answers job input a) → ReadEnds job input out verdict → Gives job input out
 read_gives job input out verdict answers h = record {
   a = answer job h.source;
@@ -44,6 +42,7 @@ told_output p (Some t) e = sym (ap (λ (t : Option LineStop). (built_answer (rec
 pub gives_answer : (job : Job) (input out : List ℕ) (verdict : Verdict) → Answered job input out verdict → Gives job input out
 gives_answer (dump d mode bare) input out verdict h = read_gives (dump d mode bare) input out verdict (λ a reads. reads) h
 gives_answer (dump_decoded d mode bare) input out verdict h = read_gives (dump_decoded d mode bare) input out verdict (λ a reads. reads) h
+gives_answer (dump_named texts d mode bare named) input out verdict h = read_gives (dump_named texts d mode bare named) input out verdict (λ a reads. reads) h
 gives_answer (convert d target) input out verdict h = read_gives (convert d target) input out verdict (λ a reads. reads) h
 gives_answer (building limit) input out verdict h = record {
   a = built_answer (build.built limit input);
@@ -54,9 +53,6 @@ gives_answer (modify d edits) input out verdict h = read_gives (modify d edits) 
 gives_answer (deidentify options reports key) input out verdict h = read_gives (deidentify options reports key) input out verdict (λ a reads. reads) h
 
 -- ---- how the work ended
-
-true_false : {A : Type 0} (b : Bool) → b ≡ true → b ≡ false → A
-true_false b e f = absurd (cc)
 
 pub not_so : {A : Type 0} (ending other : Ending) → ending ≡ other → is_written (ending_fate other) ≡ false → is_written (ending_fate ending) ≡ true → A
 not_so ending other is not done = true_false (is_written (ending_fate ending)) done (ap (λ (x : Ending). is_written (ending_fate x)) is ∙ not)
@@ -72,13 +68,13 @@ worked_is (Worked verdict) ending before after room flushed done = (verdict, ref
 worked_is (Unread count) ending before after room flushed done = not_so ending (Unread count) flushed refl done
 worked_is Output ending before after room flushed done = not_so ending Output flushed.0 refl done
 
-same_verdict : (a b : Verdict) → Worked a ≡ Worked b → a ≡ b
+pub same_verdict : (a b : Verdict) → Worked a ≡ Worked b → a ≡ b
 same_verdict a b e = cc
 
-no_unread : (worked : Ending) (verdict : Verdict) (count : ℕ) → worked ≡ Worked verdict → worked ≡ Unread count → ⊥
+pub no_unread : (worked : Ending) (verdict : Verdict) (count : ℕ) → worked ≡ Worked verdict → worked ≡ Unread count → ⊥
 no_unread worked verdict count a b = absurd (cc)
 
-no_output : (worked : Ending) (verdict : Verdict) → worked ≡ Worked verdict → worked ≡ Output → ⊥
+pub no_output : (worked : Ending) (verdict : Verdict) → worked ≡ Worked verdict → worked ≡ Output → ⊥
 no_output worked verdict a b = absurd (cc)
 
 -- all of an output, where its writer held this before and after
@@ -97,9 +93,6 @@ wrote job input left before after worked verdict is (run.answered out other h e 
 }
 wrote job input left before after worked verdict is (run.could_not_read p rest out whole at sure e grown) = absurd (no_unread worked verdict (length p) is e)
 wrote job input left before after worked verdict is (run.could_not_write out other h e grown) = absurd (no_output worked verdict is e)
-
-pub some_same : (a b : List ℕ) → Some a ≡ Some b → a ≡ b
-some_same a b e = cc
 
 pub from_nothing : (known : Option (List ℕ)) (out : List ℕ) → known ≡ Some [] → append_known known out ≡ Some out
 from_nothing known out is = ap (λ (x : Option (List ℕ)). append_known x out) is

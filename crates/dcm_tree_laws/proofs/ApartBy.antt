@@ -1,9 +1,12 @@
 -- The folder of the outputs lies apart from the one that a run is over, and is empty where the run goes on with nothing.
-use Rattle.std.proofs.Common.{◌≡◌, ◌∙◌, refl, sym, ap, subst, ℕ, zero, suc, List, [], Bool, true, false, ◌&&◌, Option, Some, None, Ok, length, arith}
-use Rattle.std.specs.Prelude.{◌≢◌, ◌==◌, ◌||◌, codes, nat_le, if◌then◌else◌}
+use Rattle.std.proofs.Common.{◌≡◌, ◌∙◌, refl, sym, ap, subst, ℕ, zero, suc, List, [], Bool, true, false, Option, Some, None, Ok, Err, length}
+use Rattle.std.specs.Prelude.{◌≢◌, ◌==◌, codes, nat_le, if◌then◌else◌}
 use Rattle.std.proofs.lemmas.Bool.{eqb-true}
-use Rattle.std.proofs.lemmas.Bool.Decides.{nat_tests}
+use Rattle.dcm_lemmas.proofs.Numbers.{equals_itself}
+use Rattle.dcm_lemmas.proofs.Options.{some_same}
+use Rattle.dcm_lemmas.proofs.Truth.{and_both, and_first, and_second, or_first_false, or_second_false, true_false}
 use Rattle.dcm_devices.specs.Writing.{Writer}
+use Rattle.dcm_files.specs.Devices.{MayDo}
 use Rattle.dcm_files.specs.Folders.{FoldersDo}
 use Rattle.dcm_files.specs.declared.folders.Found.{Found}
 use Rattle.dcm_files.specs.declared.folders.Links.TheVariants.{Followed}
@@ -13,56 +16,29 @@ use Rattle.dcm_tree_words.specs.Trees.{folder}
 use Rattle.dcm_cli.specs.Calls.{Reader}
 use Rattle.dcm_trees.specs.declared.beginning.Begun.{Begun}
 use Rattle.dcm_trees.specs.declared.beginning.Refusal.TheVariants as refusals
+use Rattle.dcm_trees.specs.declared.beginning.Spared.{Spared}
 use Rattle.dcm_trees.specs.declared.run.TreeRun.{TreeRun}
 use Rattle.dcm_trees.specs.Beginning as beginning
 use Rattle.dcm_trees.specs.Beginning.{Looks, Numbers, Climbed, Climbs, IsThere, Compares, MakesApart, HasOutput, ChecksEmpty, ChecksNew, ChecksUse, Begins, above, clash, is_same, is_within, parent_of}
 use Rattle.dcm_trees.specs.Tree as spec
-use Rattle.dcm_trees.specs.Tree.{OpensTree, VisitsFolder, DoesOpened, DoesFolder, DoesTree, part_of}
+use Rattle.dcm_trees.specs.Tree.{OpensTree, VisitsFolder, DoesOpened, DoesFolder, DoesTree, part_of, spared_of}
 use Rattle.dcm_trees.specs.World.{World}
 use Rattle.dcm_tree_laws.specs.Apart.{up, IsOther, AreOthers, LiesOutside, LieApart, both_there, new_output, IsEmpty, BeginsSo, refused, no_header, visited, OutputsLieApart, OutputsBeginEmpty}
-use Rattle.dcm_tree_laws.specs.Course.{IsNumberAt, Ready}
-use Rattle.dcm_tree_laws.specs.FileSystem.{FileSystem, Tree, Host, begins, at_path}
+use Rattle.dcm_tree_laws.specs.Course.{IsNumberAt, Ready, TellsLeft, nothing_told}
+use Rattle.dcm_tree_laws.specs.FileSystem.{FileSystem, Tree, Host, begins, may_do, at_path}
 use Rattle.dcm_tree_laws.specs.Laws.{over}
 use Rattle.dcm_tree_laws.specs.Visited.{GivesAll, HasOnce, NamesItself, telling, over_telling}
-use Rattle.dcm_tree_laws.proofs.Beginnings.{numbers, climbed, climbs, is_there, checks_use}
-use Rattle.dcm_tree_laws.proofs.CourseBy.{FoldersOver, folders_over, opens_tree, ready}
+use Rattle.dcm_tree_laws.proofs.Beginnings.{numbers, climbed, climbs, is_there, checks_use, begins_told}
+use Rattle.dcm_tree_laws.proofs.Clearing.{FoldersOver, InputsOver, folders_over, inputs_over}
+use Rattle.dcm_tree_laws.proofs.CourseBy.{opens_tree, ready}
 use Rattle.dcm_tree_laws.proofs.Looking.{same_ok}
 use Rattle.dcm_tree_laws.proofs.NumberAt.{number_at, climbs_at}
 use Rattle.dcm_tree_laws.proofs.VisitedRuns.{telling_over, own_path, same_path, folder_list}
 
 -- ---- numbers
 
-or_left : (a b : Bool) → (a || b) ≡ false → a ≡ false
-or_left false b e = refl
-or_left true b e = absurd (cc)
-
-or_right : (a b : Bool) → (a || b) ≡ false → b ≡ false
-or_right false b e = e
-or_right true b e = absurd (cc)
-
-and_left : (a b : Bool) → (a && b) ≡ true → a ≡ true
-and_left true b e = refl
-and_left false b e = absurd (cc)
-
-and_right : (a b : Bool) → (a && b) ≡ true → b ≡ true
-and_right true b e = e
-and_right false b e = absurd (cc)
-
-both_true : (a b : Bool) → a ≡ true → b ≡ true → (a && b) ≡ true
-both_true true b e f = f
-both_true false b e f = absurd (cc)
-
-is_itself : (n : ℕ) → (n == n) ≡ true
-is_itself n = grind (arith, nat_tests)
-
 same_as : (a b : FolderNumber) → b ≡ a → is_same a b ≡ true
-same_as a b e = subst (λ (x : FolderNumber). is_same a x ≡ true) (sym e) (both_true (a.device == a.device) (a.number == a.number) (is_itself a.device) (is_itself a.number))
-
-true_false : (a : Bool) → a ≡ true → a ≡ false → ⊥
-true_false a e f = absurd (cc)
-
-some_same : {A : Type 0} (a b : A) → Some a ≡ Some b → a ≡ b
-some_same a b e = cc
+same_as a b e = subst (λ (x : FolderNumber). is_same a x ≡ true) (sym e) (and_both (a.device == a.device) (a.number == a.number) (equals_itself a.device) (equals_itself a.number))
 
 both_same : (a b : FolderNumber) → b.device ≡ a.device → b.number ≡ a.number → b ≡ a
 both_same a b d n = ap (λ (x : ℕ). record { device = x; number = b.number }) d ∙ ap (λ (y : ℕ). record { device = a.device; number = y }) n
@@ -82,8 +58,8 @@ same_at : {I O : Type 0} (h : Host I O) (t : Tree) (path : List ℕ) (again last
 same_at h t path again last same at = record {
   found = at.found;
   is = at.is;
-  device_is = sym (eqb-true again.device last.device (and_left (again.device == last.device) (again.number == last.number) same)) ∙ at.device_is;
-  number_is = sym (eqb-true again.number last.number (and_right (again.device == last.device) (again.number == last.number) same)) ∙ at.number_is;
+  device_is = sym (eqb-true again.device last.device (and_first (again.device == last.device) (again.number == last.number) same)) ∙ at.device_is;
+  number_is = sym (eqb-true again.number last.number (and_second (again.device == last.device) (again.number == last.number) same)) ∙ at.number_is;
 }
 
 -- ---- the way up
@@ -129,7 +105,7 @@ module _ {I O F : Type 0} (h : Host I O) (d : FoldersDo FileSystem O F) (is_over
         levels = suc r.levels;
         at_is = a ∙ above_is;
         last_is = subst (λ (p : List ℕ). IsNumberAt h before.now p last) (sym a) there;
-        others = λ none. (r.others (or_left had_other (is_same last other) (sym o ∙ none)), subst (λ (p : List ℕ). IsOther h before.now p other) above_is (other_at h before.now (above from) last other there (or_right had_other (is_same last other) (sym o ∙ none))));
+        others = λ none. (r.others (or_first_false had_other (is_same last other) (sym o ∙ none)), subst (λ (p : List ℕ). IsOther h before.now p other) above_is (other_at h before.now (above from) last other there (or_second_false had_other (is_same last other) (sym o ∙ none))));
       }
 
   -- where another folder was not met on the way up, a folder lies outside it
@@ -194,12 +170,13 @@ module _ {I O F : Type 0} (h : Host I O) (d : FoldersDo FileSystem O F) (is_over
       subst (λ (s : FileSystem). LieApart h s.now input output number) still
       (of_made input output looked number after (subst (λ (s : FileSystem). s.now.at (h.leads Followed output) ≡ None) (sym still) (nothing_there output before looked l)) m)
 
-  of_begun : (input output name : List ℕ) (continues : Bool) (before : FileSystem) (begun : Begun) (after : FileSystem) → Begins d input false output name continues before (Ok begun) after → LieApart h before.now input output begun.number
-  of_begun input output name continues before begun after (beginning.no_output refusal has is) = absurd (cc)
-  of_begun input output name continues before begun after (beginning.no_part number refusal has p is) = absurd (cc)
-  of_begun input output name continues before begun after (beginning.has_part number path refusal mid has p c is) = absurd (cc)
-  of_begun input output name continues before begun after (beginning.in_use number path refusal mid checked has p c u is) = absurd (cc)
-  of_begun input output name continues before begun after (beginning.begun number path mid checked has p c u is) =
+  of_begun : {E : Type 0} (may : MayDo FileSystem I O) (e : Writer E) (input output name : List ℕ) (continues : Bool) (spared : Spared) (from : E) (before : FileSystem) (begun : Begun) (to : E) (after : FileSystem) → Begins may d e input false output name continues spared from before (Ok begun) to after
+      → LieApart h before.now input output begun.number
+  of_begun may e input output name continues spared from before begun to after (beginning.no_output refusal has is silent) = absurd (cc)
+  of_begun may e input output name continues spared from before begun to after (beginning.no_part number refusal has p is silent) = absurd (cc)
+  of_begun may e input output name continues spared from before begun to after (beginning.has_part number path refusal mid has p c is) = absurd (cc)
+  of_begun may e input output name continues spared from before begun to after (beginning.in_use number path refusal mid checked has p c u is) = absurd (cc)
+  of_begun may e input output name continues spared from before begun to after (beginning.begun number path mid checked has p c u is) =
       subst (λ (b : Begun). LieApart h before.now input output b.number) (same_ok (Ok begun) begun (record { number = number; part = path }) refl is) (of_output input output before number mid has)
 
 -- ---- it is empty
@@ -234,35 +211,40 @@ module _ {I O F : Type 0} (h : Host I O) (gives : F → List (List ℕ)) (itself
   checked_use output continues before after new (beginning.goes_on goes is same) = absurd (true_false continues goes new)
   checked_use output continues before after new (beginning.is_new goes c) = checked_new output before after c
 
-  begun_empty : (input output name : List ℕ) (continues : Bool) (before : FileSystem) (begun : Begun) (after : FileSystem) → continues ≡ false → Begins (telling h gives) input false output name continues before (Ok begun) after → IsEmpty h after.now output
-  begun_empty input output name continues before begun after new (beginning.no_output refusal has is) = absurd (cc)
-  begun_empty input output name continues before begun after new (beginning.no_part number refusal has p is) = absurd (cc)
-  begun_empty input output name continues before begun after new (beginning.has_part number path refusal mid has p c is) = absurd (cc)
-  begun_empty input output name continues before begun after new (beginning.in_use number path refusal mid checked has p c u is) = absurd (cc)
-  begun_empty input output name continues before begun after new (beginning.begun number path mid checked has p c u is) =
+  begun_empty : {E : Type 0} (may : MayDo FileSystem I O) (e : Writer E) (input output name : List ℕ) (continues : Bool) (spared : Spared) (from : E) (before : FileSystem) (begun : Begun) (to : E) (after : FileSystem) → continues ≡ false
+      → Begins may (telling h gives) e input false output name continues spared from before (Ok begun) to after → IsEmpty h after.now output
+  begun_empty may e input output name continues spared from before begun to after new (beginning.no_output refusal has is silent) = absurd (cc)
+  begun_empty may e input output name continues spared from before begun to after new (beginning.no_part number refusal has p is silent) = absurd (cc)
+  begun_empty may e input output name continues spared from before begun to after new (beginning.has_part number path refusal mid has p c is) = absurd (cc)
+  begun_empty may e input output name continues spared from before begun to after new (beginning.in_use number path refusal mid checked has p c u is) = absurd (cc)
+  begun_empty may e input output name continues spared from before begun to after new (beginning.begun number path mid checked has p c u is) =
       still_empty h output checked after (checks_use (telling h gives) (telling_over h gives).quiet output continues checked (Ok _) after u) (checked_use output continues checked after new u)
 
 -- ---- the run
 
 -- something is so of what a run was begun with
 abbrev IsSoBegun : {I O F E : Type 0} (w : World FileSystem I O F E) → (IsSo : FolderNumber → Tree → Type 0) → (run : TreeRun) → (path : List ℕ) → (start : Tree) → Type 0
-IsSoBegun w IsSo run path start = (begun : Begun) (mid : FileSystem) → Begins w.folders path false run.output.now (part_of run) run.options.continues (begins start) (Ok begun) mid → IsSo begun.number mid.now
+IsSoBegun {I} {O} {F} {E} w IsSo run path start = (from : E) (begun : Begun) (told : E) (mid : FileSystem)
+    → Begins w.may w.folders w.errors path false run.output.now (part_of run) run.options.continues (spared_of run) from (begins start) (Ok begun) told mid → IsSo begun.number mid.now
 
-module _ {I O F W E : Type 0} (h : Host I O) (w : World FileSystem I O F E) (folders_are : FoldersOver h w.folders) (m : Writer W) (IsSo : FolderNumber → Tree → Type 0) (run : TreeRun) (path : List ℕ) (start : Tree) (so : IsSoBegun w IsSo run path start) (manifest : W) (from : E) (status : ℕ) (left : W) (to : E) (after : FileSystem) where
+module _ {I O F W E : Type 0} (h : Host I O) (w : World FileSystem I O F E) (folders_are : FoldersOver h w.folders) (inputs_are : InputsOver h w.may) (m : Writer W) (IsSo : FolderNumber → Tree → Type 0) (run : TreeRun) (path : List ℕ) (start : Tree) (so : IsSoBegun w IsSo run path start) (manifest : W) (from : E) (status : ℕ) (left : W) (to : E) (after : FileSystem) where
   abbrev Begins_so : Type 0
   Begins_so = BeginsSo h w m IsSo run path start manifest from status left to after
 
-  of_visits : (opened : F) (begun : Begun) (mid : FileSystem) → Ready h run start begun mid → IsSo begun.number mid.now → VisitsFolder w m run path begun opened manifest from mid status left to after → Begins_so
-  of_visits opened begun mid ok is (spec.no_header failure puts close ends) = no_header failure puts ends
-  of_visits opened begun mid ok is (spec.visited headed puts v) = visited opened begun headed mid puts ok is v
+  of_visits : (opened : F) (begun : Begun) (told : E) (mid : FileSystem) → TellsLeft w.errors (part_of run) from told → Ready h run start begun mid → IsSo begun.number mid.now → VisitsFolder w m run path begun opened manifest told mid status left to after → Begins_so
+  of_visits opened begun told mid tells ok is (spec.no_header failure puts close ends) = no_header failure told tells puts ends
+  of_visits opened begun told mid tells ok is (spec.visited headed puts v) = visited opened begun headed told mid tells puts ok is v
 
   of_opened : (opened : F) → DoesOpened w m run path opened manifest from (begins start) status left to after → Begins_so
-  of_opened opened (spec.not_begun refusal tried b close refuses same) = refused refusal refuses same
-  of_opened opened (spec.was_begun begun mid b v) = of_visits opened begun mid (ready h w.folders folders_are run start path false begun mid b) (so begun mid b) v
+  of_opened opened (spec.not_begun refusal told tried b close refuses same) =
+      refused refusal told (begins_told w.may w.folders w.errors path false run.output.now (part_of run) run.options.continues (spared_of run) from (begins start) (Err refusal) told tried b) refuses same
+  of_opened opened (spec.was_begun begun told mid b v) =
+      of_visits opened begun told mid (begins_told w.may w.folders w.errors path false run.output.now (part_of run) run.options.continues (spared_of run) from (begins start) (Ok begun) told mid b)
+      (ready h w.may inputs_are w.folders folders_are w.errors run start path false (spared_of run) from begun told mid b) (so from begun told mid b) v
 
   of_folder : DoesFolder w m run path manifest from (begins start) status left to after → Begins_so
-  of_folder (spec.too_long long refuses same still) = refused _ refuses same
-  of_folder (spec.not_opened o refuses same) = refused _ refuses same
+  of_folder (spec.too_long long refuses same still) = refused _ from (nothing_told refl) refuses same
+  of_folder (spec.not_opened o refuses same) = refused _ from (nothing_told refl) refuses same
   of_folder (spec.was_opened opened mid o does) =
       of_opened opened (subst (λ (s : FileSystem). DoesOpened w m run path opened manifest from s status left to after) (opens_tree w.folders folders_are.quiet path (begins start) (Some opened) mid o) does)
 
@@ -272,10 +254,10 @@ module _ {I O F W E : Type 0} (h : Host I O) (w : World FileSystem I O F E) (fol
 
 pub outputs_lie_apart : {I O F W E : Type 0} (r : Reader I) (w : Writer O) (m : Writer W) (e : Writer E) → OutputsLieApart F r w m e
 outputs_lie_apart {I} {O} {F} {W} {E} r w m e h run path start manifest from status left to after met does =
-    of_run h (over {F = F} h r w e) (folders_over h) m (λ number now. LieApart h start path run.output.now number) run path start
-    (λ begun mid b. of_begun h (over {F = F} h r w e).folders (folders_over h) path run.output.now (part_of run) run.options.continues (begins start) begun mid b) manifest from status left to after does
+    of_run h (over {F = F} h r w e) (folders_over h) (inputs_over {I = I} h) m (λ number now. LieApart h start path run.output.now number) run path start
+    (λ from begun told mid b. of_begun h (over {F = F} h r w e).folders (folders_over h) (may_do {I = I} h) e path run.output.now (part_of run) run.options.continues (spared_of run) from (begins start) begun told mid b) manifest from status left to after does
 
 pub outputs_begin_empty : {I O F W E : Type 0} (r : Reader I) (w : Writer O) (m : Writer W) (e : Writer E) → OutputsBeginEmpty F r w m e
 outputs_begin_empty {I} {O} {F} {W} {E} r w m e h gives itself run path start manifest from status left to after new does =
-    of_run h (over_telling h gives r w e) (telling_over h gives) m (λ number now. IsEmpty h now run.output.now) run path start
-    (λ begun mid b. begun_empty h gives itself path run.output.now (part_of run) run.options.continues (begins start) begun mid new b) manifest from status left to after does
+    of_run h (over_telling h gives r w e) (telling_over h gives) (inputs_over {I = I} h) m (λ number now. IsEmpty h now run.output.now) run path start
+    (λ from begun told mid b. begun_empty h gives itself (may_do {I = I} h) e path run.output.now (part_of run) run.options.continues (spared_of run) from (begins start) begun told mid new b) manifest from status left to after does

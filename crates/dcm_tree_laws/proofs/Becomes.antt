@@ -2,6 +2,8 @@
 use Rattle.std.proofs.Common.{◌≡◌, ◌∙◌, refl, sym, ap, subst, ℕ, ◌+◌, ◌≤◌, List, [], length, Bool, true, false, Option, Some, None, Result, Ok, Err}
 use Rattle.std.specs.Prelude.{◌≢◌}
 use Rattle.std.specs.Str.{IsUtf8}
+use Rattle.dcm_lemmas.proofs.Options.{one_value}
+use Rattle.dcm_lemmas.proofs.Truth.{true_false}
 use Rattle.dcm_base.specs.Reading.Reads.{INPUT_LIMIT}
 use Rattle.dcm_devices.specs.Writing.{Writer}
 use Rattle.dcm_files.specs.declared.folders.Found.{Found}
@@ -24,7 +26,6 @@ use Rattle.dcm_trees.specs.declared.fate.Fate.{Fate}
 use Rattle.dcm_trees.specs.declared.fate.Fate.TheVariants as fates
 use Rattle.dcm_trees.specs.declared.file.Done.{Done}
 use Rattle.dcm_trees.specs.declared.part.Naming.{Naming}
-use Rattle.dcm_trees.specs.declared.part.NoPart.{NoPart}
 use Rattle.dcm_trees.specs.declared.progress.Stop.{Stop as RunStop}
 use Rattle.dcm_trees.specs.declared.task.NoDays.{NoDays}
 use Rattle.dcm_trees.specs.declared.task.NoDays.TheVariants as no_days
@@ -46,7 +47,7 @@ use Rattle.dcm_tree_laws.specs.Single.{IsJobOf}
 use Rattle.dcm_tree_laws.specs.Stays.{IsOfOutput, within}
 use Rattle.dcm_tree_laws.proofs.Alike.{Changes, both_change, Keeps, new_keeps}
 use Rattle.dcm_tree_laws.proofs.Below.{file_leads, way_is_within}
-use Rattle.dcm_tree_laws.proofs.CopyLeft.{WholeAt, whole_at}
+use Rattle.dcm_tree_laws.proofs.CopyLeft.{WholeAt, whole_at, no_job_by, no_output, removed}
 use Rattle.dcm_tree_laws.proofs.Ends.{comes_once, one_instance, has_days}
 use Rattle.dcm_tree_laws.proofs.Files.{path_is}
 use Rattle.dcm_tree_laws.proofs.Held.{GivesAll}
@@ -57,9 +58,6 @@ use Rattle.dcm_tree_laws.proofs.Onwards.{IsFileAt}
 use Rattle.dcm_tree_laws.proofs.Placing.{Gives, gives, gives_keeps, gives_stay, gives_file, NamedAlike, IsPlaced, gives_once, Copied, copied, copied_once}
 use Rattle.dcm_tree_laws.proofs.Working.{working_also, IsOpened, is_opened, not_unopened, JobIs, job_found, HasDone, job_done, PartMade, part_made, instance_found}
 use Rattle.dcm_tree_laws.proofs.Works as works
-
-true_false : {A : Type 0} (b : Bool) → b ≡ true → b ≡ false → A
-true_false b e f = absurd (cc)
 
 -- ---- what becomes of it
 
@@ -166,27 +164,19 @@ becomes_once h output part of_output mode (was_done held verdict) s u one other 
 
 -- ---- in one system
 
-removed : {I O : Type 0} (h : Host I O) (r : Reader I) (w : Writer O) (part : List ℕ) (before after : FileSystem) → IsUtf8 part → after.unremoved ≡ false → RemovesPart (working_may h r w (may_do h)) part before after → Removes h part before after
-removed h r w part before after text gone (parts.no_text t same) = absurd (t text)
-removed h r w part before after text gone (parts.removed (Ok u) t call) = call
-removed h r w part before after text gone (parts.removed (Err e) t call) = true_false after.unremoved (ap (λ (s : FileSystem). s.unremoved) call) gone
-
-found_same : (o : Option Found) (f g : Found) → o ≡ Some f → o ≡ Some g → f ≡ g
-found_same o f g a b = cc
-
 pieces_names : (n : Number) (held : List ℕ) (before after : FileSystem) → TakesPieces n held before after → SameNames before.now after.now
 pieces_names n held before after (no_piece same) = λ place. ap (λ (s : FileSystem). s.now.at place) same
 pieces_names n held before after (and_piece mid front rest more is takes) = λ place. takes.names place ∙ pieces_names n held before mid more place
 
-closed_names : (written : Option Number) (held : List ℕ) (before after : FileSystem) → ClosesOutput written held before after → SameNames before.now after.now
-closed_names (Some n) held before after c = λ place. c.names place ∙ pieces_names n held before c.last c.pieces place
-closed_names None held before after same = λ place. ap (λ (s : FileSystem). s.now.at place) same
+closed_names : (written : Option Number) (held kept : List ℕ) (before after : FileSystem) → ClosesOutput written held kept before after → SameNames before.now after.now
+closed_names (Some n) held kept before after c = λ place. c.names place ∙ pieces_names n held before c.last c.pieces place
+closed_names None held kept before after same = λ place. ap (λ (s : FileSystem). s.now.at place) same
 
-filled_by : {I O : Type 0} (h : Host I O) (part : List ℕ) (mode : ℕ) (held : List ℕ) (before made after : FileSystem) → MakesFile h part mode before made → ClosesOutput made.written held made after → Filled h part mode held before after
+filled_by : {I O : Type 0} (h : Host I O) (part : List ℕ) (mode : ℕ) (held : List ℕ) (before made after : FileSystem) → MakesFile h part mode before made → ClosesOutput made.written held held made after → Filled h part mode held before after
 filled_by h part mode held before made after makes closes =
     let whole : WholeAt h part held before.now after.now = whole_at h part mode held before made after makes closes in
     let one : whole.file ≡ makes.made =
-    found_same (at_path h after.now part) whole.file makes.made whole.at (closed_names made.written held made after closes (path_place h part) ∙ makes.puts.there) in
+    one_value (at_path h after.now part) whole.file makes.made whole.at (closed_names made.written held held made after closes (path_place h part) ∙ makes.puts.there) in
     record {
       file = whole.file;
       kind = whole.kind;
@@ -202,18 +192,10 @@ no_kind : (g : Found) → g.kind ≡ kinds.File → g.kind ≡ kinds.Other → �
 no_kind g a b = absurd (cc)
 
 file_no_other : {I O : Type 0} (h : Host I O) (t : Tree) (path : List ℕ) → (x : IsFileAt h t path) → (f : Found) → at_path h t path ≡ Some f → f.kind ≢ kinds.Other
-file_no_other h t path x f at other = no_kind f (subst (λ (y : Found). y.kind ≡ kinds.File) (found_same (at_path h t path) x.found f x.is at) x.kind) other
+file_no_other h t path x f at other = no_kind f (subst (λ (y : Found). y.kind ≡ kinds.File) (one_value (at_path h t path) x.found f x.is at) x.kind) other
 
 same_done : (result : Result Done RunStop) (one other : Done) → result ≡ Ok one → result ≡ Ok other → one ≡ other
 same_done result one other a b = cc
-
-no_output : {A O : Type 0} (cause : NoPart) (output : O) → Err cause ≡ Ok output → A
-no_output cause output e = absurd (cc)
-
-not_job : {A : Type 0} (task : Task) (held : List ℕ) (cause : NoDays) (job : Job) → IsJobOf task held job → JobIs task held (Err cause) → A
-not_job task held (no_days.Refused stop) job is none = has_days task held job stop is none
-not_job task held (no_days.Unread count) job is none = absurd none
-not_job task held no_days.Unopened job is none = absurd none
 
 refused : (task : Task) (held : List ℕ) (cause : NoDays) → JobIs task held (Err cause) → no_days_fate cause ≡ fates.Refused
 refused task held (no_days.Refused stop) none = refl
@@ -312,8 +294,8 @@ module _ {I O E : Type 0} (F : Type 0) (h : Host I O) (r : Reader I) (w : Writer
       let d : HasDone job (h.holds input) (h.took f.written) ending = job_done h r w all job input output made ending filled sound new f in
       let one : (h.took f.written ≡ held) × (d.verdict ≡ verdict) = comes_once m.task bytes (h.took f.written) held d.verdict verdict (record { job = job; is_job = of_job; answered = subst (λ (b : List ℕ). Answered job b (h.took f.written) d.verdict) holds d.answered }) comes in
       let fate : ending_fate ending ≡ verdict_fate verdict = ap ending_fate (d.is ∙ ap Worked one.1) in
-      let closes : ClosesOutput made.written held made filled =
-      subst (λ (s : FileSystem). ClosesOutput made.written held made s) (sym f.releases) (subst (λ (b : List ℕ). ClosesOutput made.written b made f.closed) one.0 f.closes.0) in
+      let closes : ClosesOutput made.written held held made filled =
+      subst (λ (s : FileSystem). ClosesOutput made.written held held made s) (sym f.releases) (subst (λ (b : List ℕ). ClosesOutput made.written b b made f.closed) one.0 f.closes.0) in
       record {
         filled = filled;
         fills = filled_by h m.part mode held before made filled makes closes;
@@ -323,8 +305,8 @@ module _ {I O E : Type 0} (F : Type 0) (h : Host I O) (r : Reader I) (w : Writer
       let d : HasDone job (h.holds input) (h.took f.written) ending = job_done h r w all job input output made ending filled sound new f in
       let one : (h.took f.written ≡ held) × (d.verdict ≡ verdict) = comes_once m.task bytes (h.took f.written) held d.verdict verdict (record { job = job; is_job = of_job; answered = subst (λ (b : List ℕ). Answered job b (h.took f.written) d.verdict) holds d.answered }) comes in
       let fate : ending_fate ending ≡ verdict_fate verdict = ap ending_fate (d.is ∙ ap Worked one.1) in
-      let closes : ClosesOutput made.written held made filled =
-      subst (λ (s : FileSystem). ClosesOutput made.written held made s) (sym f.releases) (subst (λ (b : List ℕ). ClosesOutput made.written b made f.closed) one.0 f.closes.0) in
+      let closes : ClosesOutput made.written held held made filled =
+      subst (λ (s : FileSystem). ClosesOutput made.written held held made s) (sym f.releases) (subst (λ (b : List ℕ). ClosesOutput made.written b b made f.closed) one.0 f.closes.0) in
       let full : Filled h m.part mode held before filled = filled_by h m.part mode held before made filled makes closes in
       record {
         filled = filled;
@@ -353,7 +335,7 @@ module _ {I O E : Type 0} (F : Type 0) (h : Host I O) (r : Reader I) (w : Writer
   by_end : (n : Named) (mode : ℕ) (end : FileEnd) (from : E) (s : FileSystem) (result : Result Done RunStop) (done : Done) (to : E) (after : FileSystem) → ((held : List ℕ) (verdict : Verdict) → end ≡ was_done held verdict → length held ≤ INPUT_LIMIT) → Before s → IsUtf8 n.path
       → (f : FileAt h Followed s.now n.path) → EndsAs m.task (s.now.bytes (number_of f.file)) end → after.unremoved ≡ false → result ≡ Ok done → DoesUnnamed (working {F = F} h r w e) m n mode from s result to after → Becomes h m.output m.part mode s done.fate after end
   by_end n mode end from s result done to after fits x has f (by_job held verdict comes is) gone ok (instance.no_days cause finds told at) =
-      not_job m.task (s.now.bytes (number_of f.file)) cause comes.job comes.is_job (job_found h r w all m.task n.path s (Err cause) after has f finds)
+      no_job_by m.task (s.now.bytes (number_of f.file)) cause comes.job comes.is_job (job_found h r w all m.task n.path s (Err cause) after has f finds)
   by_end n mode end from s result done to after fits x has f (by_job held verdict comes is) gone ok (instance.has_job job mid finds does) =
       let same : mid ≡ s = jobs.finds_job h (as_whole h r) m.task n.path s (Ok job) mid (works.finds_job (working_may h r w (may_do h)) (may_do h) (working_also h r w) (as_whole h r) m.task n.path s (Ok job) mid finds) in
       subst (Becomes h m.output m.part mode s done.fate after) (sym is)

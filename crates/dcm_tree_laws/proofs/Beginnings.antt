@@ -1,16 +1,27 @@
--- The beginning of a run makes the folder of the outputs, and else only looks.
-use Rattle.std.proofs.Common.{◌≡◌, ◌∙◌, refl, ℕ, List, Bool, true, false, Option, Some, None, Result, Ok, Err}
+-- The beginning of a run makes the folder of the outputs, removes what was left over, and else only looks.
+use Rattle.std.proofs.Common.{◌≡◌, ◌∙◌, refl, sym, ap, subst, ℕ, List, Bool, true, false, Option, Some, None, Result, Ok, Err}
+use Rattle.arrayvec.specs.ArrayVec.{ArrayVec}
+use Rattle.dcm_devices.specs.Writing.{Writer}
+use Rattle.dcm_files.specs.Devices.{MayDo}
 use Rattle.dcm_files.specs.Folders.{FoldersDo}
 use Rattle.dcm_files.specs.declared.folders.Found.{Found}
 use Rattle.dcm_files.specs.declared.folders.Links.TheVariants.{Kept, Followed}
+use Rattle.dcm_walk.specs.Names.{below}
 use Rattle.dcm_walk.specs.declared.folder.FolderNumber.{FolderNumber}
 use Rattle.dcm_trees.specs.declared.beginning.Begun.{Begun}
 use Rattle.dcm_trees.specs.declared.beginning.Refusal.{Refusal}
+use Rattle.dcm_trees.specs.declared.beginning.Spared.{Spared}
 use Rattle.dcm_trees.specs.Beginning as spec
-use Rattle.dcm_trees.specs.Beginning.{Looks, Numbers, Climbed, Climbs, IsThere, MakesFolder, NumbersFolder, MakesOutput, Compares, MakesApart, HasOutput, ChecksPart, ChecksEmpty, ChecksNew, ChecksUse, Begins, parent_of}
-use Rattle.dcm_tree_laws.specs.FileSystem.{FileSystem, Host, folders_do}
+use Rattle.dcm_trees.specs.Beginning.{Looks, Numbers, Climbed, Climbs, IsThere, MakesFolder, NumbersFolder, MakesOutput, Compares, MakesApart, HasOutput, ClearsWay, ChecksEmpty, ChecksNew, ChecksUse, IsPart, Begins, parent_of}
+use Rattle.dcm_trees.specs.Modes.{Modes}
+use Rattle.dcm_tree_laws.specs.Course.{TellsLeft, nothing_told}
+use Rattle.dcm_tree_laws.specs.FileSystem.{FileSystem, Host, may_do, folders_do}
+use Rattle.dcm_tree_laws.proofs.Clearing as clearing
+use Rattle.dcm_tree_laws.proofs.Clearing.{Clearing, folders_over, inputs_over, way_clearing, way_told}
+use Rattle.dcm_tree_laws.proofs.Files.{path_is}
+use Rattle.dcm_tree_laws.proofs.Looking.{finds_mode, same_ok}
 use Rattle.dcm_tree_laws.proofs.Quiet.{Quiet, are_quiet}
-use Rattle.dcm_tree_laws.proofs.Steps.{Phase, is_writing, StepsIn, folder, goes_on, one, quiet}
+use Rattle.dcm_tree_laws.proofs.Steps.{Phase, idle, is_writing, StepsIn, folder, removed, not_removed, goes_on, one, quiet}
 
 pub looks : {S O F : Type 0} (d : FoldersDo S O F) → Quiet d → (path : List ℕ) (before : S) (r : Result (Option Found) Refusal) (after : S) → Looks d path before r after → after ≡ before
 looks d q path before r after (spec.no_text t is same) = same
@@ -57,12 +68,6 @@ compares d q input is_list output before r after (spec.within read way back mid 
 compares d q input is_list output before r after (spec.apart read way back mid was n c k b o is) =
     climbs d q input way.first was (Ok back) after b ∙ climbs d q output read mid (Ok way) was c ∙ numbers d q input before (Ok read) mid n
 
-pub checks_part : {S O F : Type 0} (d : FoldersDo S O F) → Quiet d → (part : List ℕ) (before : S) (r : Result (Unit {0}) Refusal) (after : S) → ChecksPart d part before r after → after ≡ before
-checks_part d q part before r after (spec.no_text t is same) = same
-checks_part d q part before r after (spec.nothing t call is) = q.finds before part Kept (Ok None) after call
-checks_part d q part before r after (spec.is_there found t call is) = q.finds before part Kept (Ok (Some found)) after call
-checks_part d q part before r after (spec.not_seen e t call is) = q.finds before part Kept (Err e) after call
-
 checks_empty : {S O F : Type 0} (d : FoldersDo S O F) → Quiet d → (output : List ℕ) (before : S) (r : Result (Unit {0}) Refusal) (after : S) → ChecksEmpty d output before r after → after ≡ before
 checks_empty d q output before r after (spec.no_text t is same) = same
 checks_empty d q output before r after (spec.not_opened e t call is) = q.opens before output (Err e) after call
@@ -80,18 +85,20 @@ checks_use d q output continues before r after (spec.is_new c n) = checks_new d 
 
 -- ---- the folder of the outputs
 
-makes_folder : {I O F : Type 0} (h : Host I O) (IsWhole : ℕ → List ℕ → Type 0) (part output : List ℕ) (Of : List ℕ → Type 0) → Of output → (at : Phase) → is_writing at ≡ false → (before : FileSystem) (r : Result (Unit {0}) Refusal) (after : FileSystem)
-    → MakesFolder (folders_do {F = F} h) output before r after → StepsIn h IsWhole part Of at before at after
+makes_folder : {I O F : Type 0} {mode : ℕ} (h : Host I O) (IsWhole : ℕ → List ℕ → Type 0) (part output : List ℕ) (Of : List ℕ → Type 0) → Of output → (at : Phase) → is_writing at ≡ false → (before : FileSystem) (r : Result (Unit {0}) Refusal) (after : FileSystem)
+    → MakesFolder (folders_do {F = F} h) output mode before r after → StepsIn h IsWhole part Of at before at after
 makes_folder h IsWhole part output Of to at rest before r after (spec.no_text t is same) = quiet same
-makes_folder h IsWhole part output Of to at rest before r after (spec.made t call is) = one (folder output rest to call refl)
+makes_folder {mode = mode} h IsWhole part output Of to at rest before r after (spec.made t call is) = one (folder output mode rest to call refl)
 makes_folder h IsWhole part output Of to at rest before r after (spec.was_there e t call k is) = quiet call
 makes_folder h IsWhole part output Of to at rest before r after (spec.not_made e t call k is) = quiet call
 
-makes_output : {I O F : Type 0} (h : Host I O) (IsWhole : ℕ → List ℕ → Type 0) (part output : List ℕ) (Of : List ℕ → Type 0) → Of output → (at : Phase) → is_writing at ≡ false → (before : FileSystem) (r : Result FolderNumber Refusal) (after : FileSystem)
-    → MakesOutput (folders_do {F = F} h) output before r after → StepsIn h IsWhole part Of at before at after
-makes_output {I} {O} {F} h IsWhole part output Of to at rest before r after (spec.not_made refusal m is) = makes_folder {F = F} h IsWhole part output Of to at rest before (Err refusal) after m
-makes_output {I} {O} {F} h IsWhole part output Of to at rest before r after (spec.made mid m n) =
-    goes_on (makes_folder {F = F} h IsWhole part output Of to at rest before (Ok _) mid m) (quiet (numbers_folder (folders_do {F = F} h) (are_quiet h) output mid r after n))
+makes_output : {I O F : Type 0} {modes : Modes} (h : Host I O) (IsWhole : ℕ → List ℕ → Type 0) (part output : List ℕ) (Of : List ℕ → Type 0) → Of output → (at : Phase) → is_writing at ≡ false → (before : FileSystem) (r : Result FolderNumber Refusal) (after : FileSystem)
+    → MakesOutput (folders_do {F = F} h) modes output before r after → StepsIn h IsWhole part Of at before at after
+makes_output {I} {O} {F} h IsWhole part output Of to at rest before r after (spec.no_mode n f is) = quiet (finds_mode (folders_do {F = F} h) (are_quiet h) before (Err n) after f)
+makes_output {I} {O} {F} h IsWhole part output Of to at rest before r after (spec.not_made mode refusal seen f m is) =
+    goes_on (quiet (finds_mode (folders_do {F = F} h) (are_quiet h) before (Ok mode) seen f)) (makes_folder {F = F} h IsWhole part output Of to at rest seen (Err refusal) after m)
+makes_output {I} {O} {F} h IsWhole part output Of to at rest before r after (spec.made mode seen mid f m n) =
+    goes_on (goes_on (quiet (finds_mode (folders_do {F = F} h) (are_quiet h) before (Ok mode) seen f)) (makes_folder {F = F} h IsWhole part output Of to at rest seen (Ok _) mid m)) (quiet (numbers_folder (folders_do {F = F} h) (are_quiet h) output mid r after n))
 
 makes_apart : {I O F : Type 0} (h : Host I O) (IsWhole : ℕ → List ℕ → Type 0) (part output : List ℕ) (Of : List ℕ → Type 0) → Of output → (at : Phase) → is_writing at ≡ false → (input : List ℕ) (is_list : Bool) (before : FileSystem) (r : Result FolderNumber Refusal) (after : FileSystem)
     → MakesApart (folders_do {F = F} h) input is_list output before r after → StepsIn h IsWhole part Of at before at after
@@ -112,15 +119,42 @@ has_output {I} {O} {F} h IsWhole part output Of to at rest input is_list before 
 has_output {I} {O} {F} h IsWhole part output Of to at rest input is_list before r after (spec.not_there looked l m) =
     goes_on (quiet (is_there (folders_do {F = F} h) (are_quiet h) output before (Ok false) looked l)) (makes_apart {F = F} h IsWhole part output Of to at rest input is_list looked r after m)
 
-pub begins_by : {I O F : Type 0} (h : Host I O) (IsWhole : ℕ → List ℕ → Type 0) (part output : List ℕ) (Of : List ℕ → Type 0) → Of output → (at : Phase) → is_writing at ≡ false → (input : List ℕ) (is_list : Bool) (name : List ℕ) (continues : Bool) (before : FileSystem) (r : Result Begun Refusal) (after : FileSystem)
-    → Begins (folders_do {F = F} h) input is_list output name continues before r after → StepsIn h IsWhole part Of at before at after
-begins_by {I} {O} {F} h IsWhole part output Of to at rest input is_list name continues before r after (spec.no_output refusal has is) = has_output {F = F} h IsWhole part output Of to at rest input is_list before (Err refusal) after has
-begins_by {I} {O} {F} h IsWhole part output Of to at rest input is_list name continues before r after (spec.no_part number refusal has p is) = has_output {F = F} h IsWhole part output Of to at rest input is_list before (Ok number) after has
-begins_by {I} {O} {F} h IsWhole part output Of to at rest input is_list name continues before r after (spec.has_part number path refusal mid has p c is) =
-    goes_on (has_output {F = F} h IsWhole part output Of to at rest input is_list before (Ok number) mid has) (quiet (checks_part (folders_do {F = F} h) (are_quiet h) path.items mid (Err refusal) after c))
-begins_by {I} {O} {F} h IsWhole part output Of to at rest input is_list name continues before r after (spec.in_use number path refusal mid checked has p c u is) =
-    goes_on (has_output {F = F} h IsWhole part output Of to at rest input is_list before (Ok number) mid has)
-    (quiet (checks_use (folders_do {F = F} h) (are_quiet h) output continues checked (Err refusal) after u ∙ checks_part (folders_do {F = F} h) (are_quiet h) path.items mid (Ok _) checked c))
-begins_by {I} {O} {F} h IsWhole part output Of to at rest input is_list name continues before r after (spec.begun number path mid checked has p c u is) =
-    goes_on (has_output {F = F} h IsWhole part output Of to at rest input is_list before (Ok number) mid has)
-    (quiet (checks_use (folders_do {F = F} h) (are_quiet h) output continues checked (Ok _) after u ∙ checks_part (folders_do {F = F} h) (are_quiet h) path.items mid (Ok _) checked c))
+-- the part is at its path in the folder of the outputs
+pub is_part : (output part : List ℕ) (path : ArrayVec ℕ) → IsPart output part (Ok path) → path.items ≡ below output part
+is_part output part path (spec.fits other e is) = ap (λ (p : ArrayVec ℕ). p.items) (sym (same_ok (Ok path) path other refl is)) ∙ path_is output part other.items e
+is_part output part path (spec.too_long e is) = absurd (cc)
+
+clears_by : {I O : Type 0} (h : Host I O) (IsWhole : ℕ → List ℕ → Type 0) (part : List ℕ) (Of : List ℕ → Type 0) (before after : FileSystem) → Clearing h part before after → StepsIn h IsWhole part Of idle before idle after
+clears_by h IsWhole part Of before after (clearing.still same) = quiet same
+clears_by h IsWhole part Of before after (clearing.failed is) = one (not_removed refl is refl)
+clears_by h IsWhole part Of before after (clearing.gone was there kind removes) = one (removed refl removes refl)
+
+module _ {I O F E : Type 0} (h : Host I O) (e : Writer E) (IsWhole : ℕ → List ℕ → Type 0) (part output name : List ℕ) (is : below output name ≡ part) (Of : List ℕ → Type 0) (to_output : Of output) where
+  way_by : (path : ArrayVec ℕ) → IsPart output name (Ok path) → (spared : Spared) (from : E) (before : FileSystem) (r : Result (Unit {0}) Refusal) (to : E) (after : FileSystem)
+      → ClearsWay (may_do {I = I} h) (folders_do {F = F} h) e path.items name spared from before r to after → StepsIn h IsWhole part Of idle before idle after
+  way_by path p spared from before r to after clears =
+      clears_by h IsWhole part Of before after
+      (subst (λ (x : List ℕ). Clearing h x before after) (is_part output name path p ∙ is) (way_clearing h (may_do {I = I} h) (inputs_over {I = I} h) (folders_do {F = F} h) (folders_over {F = F} h) e path.items name spared from before r to after clears))
+
+  pub begins_by : (input : List ℕ) (is_list : Bool) (continues : Bool) (spared : Spared) (from : E) (before : FileSystem) (r : Result Begun Refusal) (to : E) (after : FileSystem)
+      → Begins (may_do {I = I} h) (folders_do {F = F} h) e input is_list output name continues spared from before r to after → StepsIn h IsWhole part Of idle before idle after
+  begins_by input is_list continues spared from before r to after (spec.no_output refusal has x silent) = has_output {F = F} h IsWhole part output Of to_output idle refl input is_list before (Err refusal) after has
+  begins_by input is_list continues spared from before r to after (spec.no_part number refusal has p x silent) = has_output {F = F} h IsWhole part output Of to_output idle refl input is_list before (Ok number) after has
+  begins_by input is_list continues spared from before r to after (spec.has_part number path refusal mid has p c x) =
+      goes_on (has_output {F = F} h IsWhole part output Of to_output idle refl input is_list before (Ok number) mid has) (way_by path p spared from mid (Err refusal) to after c)
+  begins_by input is_list continues spared from before r to after (spec.in_use number path refusal mid checked has p c u x) =
+      goes_on (goes_on (has_output {F = F} h IsWhole part output Of to_output idle refl input is_list before (Ok number) mid has) (way_by path p spared from mid (Ok _) to checked c))
+      (quiet (checks_use (folders_do {F = F} h) (are_quiet h) output continues checked (Err refusal) after u))
+  begins_by input is_list continues spared from before r to after (spec.begun number path mid checked has p c u x) =
+      goes_on (goes_on (has_output {F = F} h IsWhole part output Of to_output idle refl input is_list before (Ok number) mid has) (way_by path p spared from mid (Ok _) to checked c))
+      (quiet (checks_use (folders_do {F = F} h) (are_quiet h) output continues checked (Ok _) after u))
+
+-- ---- what it tells
+
+pub begins_told : {S I O F E : Type 0} (may : MayDo S I O) (d : FoldersDo S O F) (e : Writer E) (input : List ℕ) (is_list : Bool) (output name : List ℕ) (continues : Bool) (spared : Spared) (from : E) (before : S) (r : Result Begun Refusal) (to : E) (after : S)
+    → Begins may d e input is_list output name continues spared from before r to after → TellsLeft e name from to
+begins_told may d e input is_list output name continues spared from before r to after (spec.no_output refusal has x silent) = nothing_told silent
+begins_told may d e input is_list output name continues spared from before r to after (spec.no_part number refusal has p x silent) = nothing_told silent
+begins_told may d e input is_list output name continues spared from before r to after (spec.has_part number path refusal mid has p c x) = way_told may d e path.items name spared from mid (Err refusal) to after c
+begins_told may d e input is_list output name continues spared from before r to after (spec.in_use number path refusal mid checked has p c u x) = way_told may d e path.items name spared from mid (Ok _) to checked c
+begins_told may d e input is_list output name continues spared from before r to after (spec.begun number path mid checked has p c u x) = way_told may d e path.items name spared from mid (Ok _) to checked c

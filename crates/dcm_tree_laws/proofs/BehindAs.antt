@@ -1,6 +1,7 @@
 -- The rows of runs that name outputs by instances, some of which come to one output, are told by the names before.
 use Rattle.std.proofs.Common.{◌≡◌, ◌∙◌, refl, sym, ap, subst, inl, inr, ℕ, ◌≤◌, List, length, [], ◌∷◌, Bool, true, false, Option, Some, None, Ok}
 use Rattle.std.specs.Prelude.{◌&&◌, ◌||◌}
+use Rattle.dcm_lemmas.proofs.Truth.{true_false}
 use Rattle.dcm_base.specs.Reading.Reads.{INPUT_LIMIT}
 use Rattle.dcm_devices.specs.Writing.{Writer}
 use Rattle.dcm_files.specs.declared.folders.Found.{Found}
@@ -26,7 +27,7 @@ use Rattle.dcm_tree_laws.specs.FileSystem.{FileSystem, Tree, Host, number_of, pl
 use Rattle.dcm_tree_laws.specs.Rows.{Visit}
 use Rattle.dcm_tree_laws.specs.Single.{TellsAll}
 use Rattle.dcm_tree_laws.specs.Together.{IsFree, HasBytes, NamesInstance, IsInstanceOf, Has}
-use Rattle.dcm_tree_laws.specs.ToldAs.{HasFileAt, IsToldAs, told_as_no_file, told_as_index, told_as_unnamed, told_as_free, told_as_there, told_as_occupied, AreAsideAs}
+use Rattle.dcm_tree_laws.specs.ToldAs.{HasFileAt, IsToldAs, told_as_no_file, told_as_index, told_as_unnamed, told_as_free, told_as_there, told_as_taken, AreAsideAs}
 use Rattle.dcm_tree_laws.proofs.CopyMade.{CopyMade, copy_made}
 use Rattle.dcm_tree_laws.proofs.EndsAs.{PlacedAs}
 use Rattle.dcm_tree_laws.proofs.FatesAs.{names_once}
@@ -39,10 +40,7 @@ use Rattle.dcm_tree_laws.proofs.StagesAs.{same_bytes}
 use Rattle.dcm_tree_laws.proofs.ToldAsBy.{swapped, placed, frees_own, rows_of, kept_instance, kept_file, is_open_at, still_told, free_after, any_run}
 use Rattle.dcm_tree_laws.proofs.UnnamedLeft.{no_name}
 use Rattle.dcm_tree_laws.proofs.Working.{whole_gives}
-use Rattle.dcm_tree_laws.proofs.Written.{what_not, instance_not}
-
-true_false : {A : Type 0} (b : Bool) → b ≡ true → b ≡ false → A
-true_false b e f = absurd (cc)
+use Rattle.dcm_tree_laws.proofs.Written.{what_not, instance_not, not_written as no_output}
 
 some_none : {A : Type 0} (o : Option Found) (f : Found) → o ≡ Some f → o ≡ None → A
 some_none o f is none = absurd (cc)
@@ -53,9 +51,6 @@ of_all Is x (v ∷ visits) (inl is) all = subst Is is all.0
 of_all Is x (v ∷ visits) (inr has) all = of_all Is x visits has all.1
 
 -- ---- fates
-
-pub no_output : {A : Type 0} (fate other : Fate) → fate ≡ other → is_written other ≡ false → is_written fate ≡ true → A
-no_output fate other is not written = true_false (is_written other) (sym (ap is_written is) ∙ written) not
 
 unnamed_not : (task : Task) (bytes : List ℕ) (fate : Fate) → EndsUnnamed task bytes fate → is_written fate ≡ false
 unnamed_not task bytes fate (no_days stop none is) = ap is_written is
@@ -69,12 +64,12 @@ met_instance false d = refl
 met_named : (b : Bool) (d : Done) (uids : Uids) → IsNamedBy uids (met_if b d) → IsNamedBy uids (met d)
 met_named b d uids named = record { relative = named.relative; instance_is = sym (met_instance b d) ∙ named.instance_is; relative_is = named.relative_is }
 
-there_not : {A : Type 0} → fates.There ≡ fates.Occupied → A
+there_not : {A : Type 0} → fates.There ≡ fates.Taken → A
 there_not e = absurd (cc)
 
-met_occupied : (b : Bool) (d : Done) → (met_if b d).fate ≡ fates.Occupied → d.fate ≡ fates.Occupied
-met_occupied true d is = there_not is
-met_occupied false d is = is
+met_taken : (b : Bool) (d : Done) → (met_if b d).fate ≡ fates.Taken → d.fate ≡ fates.Taken
+met_taken true d is = there_not is
+met_taken false d is = is
 
 -- ---- one instance
 
@@ -133,7 +128,7 @@ module _ {I O F E : Type 0} (h : Host I O) (r : Reader I) (w : Writer O) (e : Wr
     free_then mode bytes out uids named not (told_as_unnamed its fate file ends is) free = one_named h k.task k.output first (visit_of n what) x both its fate file.input ends
     free_then mode bytes out uids named not (told_as_free c its written who v free_first fate_is by) free = true_false (is_written dv.fate) (ap is_written fate_is ∙ v.named.written) not
     free_then mode bytes out uids named not (told_as_there c its written who v f fits fate_is by) free = file_before mode bytes out uids c its written who named v written f free
-    free_then mode bytes out uids named not (told_as_occupied c its written there who v f differ fate_is by) free = file_before mode bytes out uids c its written who named v there f free
+    free_then mode bytes out uids named not (told_as_taken c its written there who v f differ fate_is by) free = file_before mode bytes out uids c its written who named v there f free
 
     not_written : (d : Done) → is_written dv.fate ≡ false → IsToldAs h k.task k.output before.now x d → IsToldAs h k.task k.output after.now x d
     not_written d not is = still_told h k.task k.output before.now after.now x d keeps_now (λ mode bytes out uids named free. free_then mode bytes out uids named not told_v free) is
@@ -178,14 +173,14 @@ module _ {I O F E : Type 0} (h : Host I O) (r : Reader I) (w : Writer O) (e : Wr
         written_by mode bytes out uids c its written who named (kept_instance h k.task k.output first before.now (visit_of n what) c its written who since (inl free_v) v) free_v
 
     -- one that found other bytes there did so before the first run
-    never_occupied : {A : Type 0} (d : Done) (mode : ℕ) (bytes out : List ℕ) (uids : Uids) (c : ℕ) (its written : List ℕ) (who : Uids) → IsInstanceOf h k.task k.output before.now x mode bytes out uids → IsInstanceOf h k.task k.output first (visit_of n what) c its written who → IsFree h k.output (instance_name who) first
-        → d.fate ≡ fates.Occupied → IsToldAs h k.task k.output first x d → A
-    never_occupied d mode bytes out uids c its written who named v free fate (told_as_no_file not is) = absurd (not both.mode both.of_file)
-    never_occupied d mode bytes out uids c its written who named v free fate (told_as_index a of_file index is) = true_false (is_media_index x.named.relative) index both.no_index
-    never_occupied d mode bytes out uids c its written who named v free fate (told_as_unnamed a b file ends is) = other_named h k.task k.output first (visit_of n what) x both first (keeps_itself h k.output first) a b file.input ends
-    never_occupied d mode bytes out uids c its written who named v free fate (told_as_free a b o u y free_x fate_is by) = no_output d.fate fates.Occupied fate refl (ap is_written fate_is ∙ y.named.written)
-    never_occupied d mode bytes out uids c its written who named v free fate (told_as_there a b o u y f fits fate_is by) = there_not (sym fate_is ∙ fate)
-    never_occupied d mode bytes out uids c its written who named v free fate (told_as_occupied a b o found u y f differ fate_is by) =
+    never_taken : {A : Type 0} (d : Done) (mode : ℕ) (bytes out : List ℕ) (uids : Uids) (c : ℕ) (its written : List ℕ) (who : Uids) → IsInstanceOf h k.task k.output before.now x mode bytes out uids → IsInstanceOf h k.task k.output first (visit_of n what) c its written who → IsFree h k.output (instance_name who) first
+        → d.fate ≡ fates.Taken → IsToldAs h k.task k.output first x d → A
+    never_taken d mode bytes out uids c its written who named v free fate (told_as_no_file not is) = absurd (not both.mode both.of_file)
+    never_taken d mode bytes out uids c its written who named v free fate (told_as_index a of_file index is) = true_false (is_media_index x.named.relative) index both.no_index
+    never_taken d mode bytes out uids c its written who named v free fate (told_as_unnamed a b file ends is) = other_named h k.task k.output first (visit_of n what) x both first (keeps_itself h k.output first) a b file.input ends
+    never_taken d mode bytes out uids c its written who named v free fate (told_as_free a b o u y free_x fate_is by) = no_output d.fate fates.Taken fate refl (ap is_written fate_is ∙ y.named.written)
+    never_taken d mode bytes out uids c its written who named v free fate (told_as_there a b o u y f fits fate_is by) = there_not (sym fate_is ∙ fate)
+    never_taken d mode bytes out uids c its written who named v free fate (told_as_taken a b o found u y f differ fate_is by) =
         free_not h k.task k.output first (visit_of n what) x both found u who (names_other h k.task k.output first (visit_of n what) x both first (keeps_itself h k.output first) a b o u y).1 (names_one h k.task k.output first (visit_of n what) x both c its written who v) f free
 
     by_free : (c : ℕ) (its written : List ℕ) (who : Uids) → IsInstanceOf h k.task k.output first (visit_of n what) c its written who → IsFree h k.output (instance_name who) first → IsToldAs h k.task k.output before.now x (met_if others dx) → IsToldAs h k.task k.output after.now x (met dx)
@@ -194,7 +189,7 @@ module _ {I O F E : Type 0} (h : Host I O) (r : Reader I) (w : Writer O) (e : Wr
     by_free c its written who v free (told_as_unnamed a b file ends is) = other_named h k.task k.output first (visit_of n what) x both before.now since a b file.input ends
     by_free c its written who v free (told_as_free mode bytes out uids y free_x fate_is by) = there_as dx mode bytes out uids y (written_file mode bytes out uids c its written who y v free_x) by
     by_free c its written who v free (told_as_there mode bytes out uids y f fits fate_is by) = there_as dx mode bytes out uids y (kept_file h k.output (instance_name uids) before.now after.now out keeps_now y.own f) by
-    by_free c its written who v free (told_as_occupied mode bytes out found uids y f differ fate_is by) = never_occupied dx mode bytes out uids c its written who y v free (met_occupied others dx fate_is) told_x
+    by_free c its written who v free (told_as_taken mode bytes out found uids y f differ fate_is by) = never_taken dx mode bytes out uids c its written who y v free (met_taken others dx fate_is) told_x
 
     is_there : is_written dv.fate ≡ true → IsToldAs h k.task k.output first (visit_of n what) dv → IsToldAs h k.task k.output before.now x (met_if others dx) → IsToldAs h k.task k.output after.now x (met dx)
     is_there written (told_as_no_file not d) is = no_output dv.fate (fate_of what) (ap (λ (y : Done). y.fate) d) (what_not what) written
@@ -202,7 +197,7 @@ module _ {I O F E : Type 0} (h : Host I O) (r : Reader I) (w : Writer O) (e : Wr
     is_there written (told_as_unnamed a b file ends d) is = no_output dv.fate b (ap (λ (y : Done). y.fate) d) (unnamed_not k.task a b ends) written
     is_there written (told_as_free c its out who v free fate_is by) is = by_free c its out who v free is
     is_there written (told_as_there a b o u y f fits fate_is by) is = no_output dv.fate fates.There fate_is refl written
-    is_there written (told_as_occupied a b o found u y f differ fate_is by) is = no_output dv.fate fates.Occupied fate_is refl written
+    is_there written (told_as_taken a b o found u y f differ fate_is by) is = no_output dv.fate fates.Taken fate_is refl written
 
   -- by whether they come to one output, and the first was written
   follows_by : (is_same was : Bool) → AreBesideAs h k.task k.output first is_same (visit_of n what) x → is_written dv.fate ≡ was → IsToldAs h k.task k.output before.now x (met_if others dx) → IsToldAs h k.task k.output after.now x (met_if ((is_same && was) || others) dx)

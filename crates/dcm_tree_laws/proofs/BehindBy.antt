@@ -2,6 +2,7 @@
 use Rattle.std.proofs.Common.{◌≡◌, ◌∙◌, refl, sym, ap, subst, ℕ, List, ◌∷◌, Bool, true, false, Option, None, Ok}
 use Rattle.std.specs.Prelude.{◌&&◌, ◌||◌}
 use Rattle.arrayvec.specs.ArrayVec.{ArrayVec}
+use Rattle.dcm_lemmas.proofs.Truth.{true_false}
 use Rattle.dcm_devices.specs.Writing.{Writer}
 use Rattle.dcm_walk.specs.Names.{below}
 use Rattle.dcm_walk.specs.Visits.{Named}
@@ -23,7 +24,7 @@ use Rattle.dcm_tree_laws.specs.Rows.{Visit}
 use Rattle.dcm_tree_laws.specs.Single.{TellsAll}
 use Rattle.dcm_tree_laws.specs.Together.{HasOwnPlace, IsFree, IsNameOf, end_fate}
 use Rattle.dcm_tree_laws.specs.Told.{IsTold, told_no_file, told_index, told_there, told_free, AreAside}
-use Rattle.dcm_tree_laws.proofs.BehindAs.{of_all, no_output}
+use Rattle.dcm_tree_laws.proofs.BehindAs.{of_all}
 use Rattle.dcm_tree_laws.proofs.Ends.{one_end}
 use Rattle.dcm_tree_laws.proofs.Following.{Following, rows_follow}
 use Rattle.dcm_tree_laws.proofs.Frees.{KeepsAll, bytes_kept, free_stays}
@@ -33,10 +34,7 @@ use Rattle.dcm_tree_laws.proofs.RowsToldBy.{swapped, kept_there, told_done, free
 use Rattle.dcm_tree_laws.proofs.Stages.{own, of_output, over_does, touches, name_keeps}
 use Rattle.dcm_tree_laws.proofs.StagesAs.{same_bytes}
 use Rattle.dcm_tree_laws.proofs.Touched.{Touches}
-use Rattle.dcm_tree_laws.proofs.Written.{what_not}
-
-true_false : {A : Type 0} (b : Bool) → b ≡ true → b ≡ false → A
-true_false b e f = absurd (cc)
+use Rattle.dcm_tree_laws.proofs.Written.{what_not, not_written as no_output}
 
 -- ---- fates
 

@@ -4,11 +4,13 @@ use Rattle.std.proofs.lemmas.Bool.{eqb-true}
 use Rattle.std.specs.List.{list_all}
 use Rattle.std.specs.Fmt.{digits, digits_onto, digit_glyph}
 use Rattle.std.proofs.Common.{◌≡◌, ◌∙◌, refl, sym, ap, subst, ℕ, zero, suc, ◌+◌, ◌≤◌, List, [], ◌∷◌, ◌++◌, length, take, drop, Bool, true, false, ◌&&◌, Option, Some, None, Result, Ok, arith, append_assoc}
+use Rattle.dcm_cli.proofs.Passes.Readers.{allows_nothing}
+use Rattle.dcm_lemmas.proofs.Options.{one_value}
+use Rattle.dcm_lemmas.proofs.Truth.{and_both, and_first, and_second, neither_second, true_false}
 use Rattle.dcm_base.specs.Tree.Front.{Front, front as a_front}
 use Rattle.dcm_base.specs.declared.syntax.Syntax.{Syntax}
 use Rattle.dcm_base.specs.Tables.Transfer.{without_pads}
 use Rattle.dcm_uid.specs.Uid.{is_uid_byte}
-use Rattle.dcm_cli.specs.InputCalls.{How, in_part, to_end, with_failure, Allows}
 use Rattle.dcm_cli.specs.Calls.{Reader}
 use Rattle.dcm_files.specs.Devices.{MayDo}
 use Rattle.dcm_instance.specs.declared.names.Instance.{Instance}
@@ -27,21 +29,6 @@ use Rattle.dcm_tree_laws.specs.Stays.{IsOfOutput, within}
 use Rattle.dcm_tree_laws.proofs.Ways.{WayFolder, way_folder}
 
 -- ---- truth values
-
-and_left : (a b : Bool) → (a && b) ≡ true → a ≡ true
-and_left true b e = refl
-and_left false b e = absurd (cc)
-
-and_right : (a b : Bool) → (a && b) ≡ true → b ≡ true
-and_right true b e = e
-and_right false b e = absurd (cc)
-
-and_both : (a b : Bool) → a ≡ true → b ≡ true → (a && b) ≡ true
-and_both true b e f = f
-and_both false b e f = absurd (cc)
-
-true_false : {A : Type 0} (b : Bool) → b ≡ true → b ≡ false → A
-true_false b e f = absurd (cc)
 
 -- ---- the front of a name, up to a slash
 
@@ -75,7 +62,7 @@ begins_front front rest =
 -- one byte of a name that goes on below, whatever it is
 goes_one : (zero_byte slash other begins more goes : Bool) → other ≡ begins → (more ≡ true → goes ≡ true) → (not zero_byte && (not slash || other) && more) ≡ true → (not zero_byte && (not slash || begins) && goes) ≡ true
 goes_one true slash other begins more goes same onwards e = absurd (cc)
-goes_one false true other begins more goes same onwards e = and_both begins goes (sym same ∙ and_left other more e) (onwards (and_right other more e))
+goes_one false true other begins more goes same onwards e = and_both begins goes (sym same ∙ and_first other more e) (onwards (and_second other more e))
 goes_one false false other begins more goes same onwards e = onwards e
 
 goes_front : (front rest : List ℕ) → goes_below (front ++ (47 ∷ rest)) ≡ true → goes_below front ≡ true
@@ -84,8 +71,8 @@ goes_front (b ∷ bs) rest e = goes_one (b == 0) (is_slash b) (begins_part (bs +
 
 leads_front : (front rest : List ℕ) → leads_below (front ++ (47 ∷ rest)) ≡ true → leads_below front ≡ true
 leads_front front rest e =
-    and_both (begins_part front) (goes_below front) (sym (begins_front front rest) ∙ and_left (begins_part (front ++ (47 ∷ rest))) (goes_below (front ++ (47 ∷ rest))) e)
-    (goes_front front rest (and_right (begins_part (front ++ (47 ∷ rest))) (goes_below (front ++ (47 ∷ rest))) e))
+    and_both (begins_part front) (goes_below front) (sym (begins_front front rest) ∙ and_first (begins_part (front ++ (47 ∷ rest))) (goes_below (front ++ (47 ∷ rest))) e)
+    (goes_front front rest (and_second (begins_part (front ++ (47 ∷ rest))) (goes_below (front ++ (47 ∷ rest))) e))
 
 pub leads_folder : (relative folder behind : List ℕ) → relative ≡ below folder behind → leads_below relative ≡ true → leads_below folder ≡ true
 leads_folder relative folder behind cut e = leads_front folder behind (ap leads_below (sym (append_assoc folder (codes "/") behind) ∙ sym cut) ∙ e)
@@ -121,12 +108,7 @@ plain_one false false begins goes p g = g
 plain_goes : (bytes rest : List ℕ) → list_all is_plain bytes ≡ true → goes_below rest ≡ true → goes_below (bytes ++ rest) ≡ true
 plain_goes [] rest p g = g
 plain_goes (b ∷ bs) rest p g =
-    plain_one (b == 0) (is_slash b) (begins_part (bs ++ rest)) (goes_below (bs ++ rest)) (and_left (is_plain b) (list_all is_plain bs) p) (plain_goes bs rest (and_right (is_plain b) (list_all is_plain bs) p) g)
-
-plain_slash : (zero_byte slash : Bool) → (not zero_byte && not slash) ≡ true → slash ≡ false
-plain_slash true slash p = absurd (cc)
-plain_slash false true p = absurd (cc)
-plain_slash false false p = refl
+    plain_one (b == 0) (is_slash b) (begins_part (bs ++ rest)) (goes_below (bs ++ rest)) (and_first (is_plain b) (list_all is_plain bs) p) (plain_goes bs rest (and_second (is_plain b) (list_all is_plain bs) p) g)
 
 begins_of : (bytes : List ℕ) → ends_part bytes ≡ false → ends_part (after_dot bytes) ≡ false → ends_part (after_dot (after_dot bytes)) ≡ false → begins_part bytes ≡ true
 begins_of bytes x y z = begins_same (ends_part bytes) (ends_part (after_dot bytes)) (ends_part (after_dot (after_dot bytes))) false false false x y z
@@ -187,18 +169,18 @@ uid_plain b of_uid = plain_by b (b == 0) (b == 47) refl refl (uid_not b 0 of_uid
 all_plain : (u : List ℕ) → list_all is_uid_byte u ≡ true → list_all is_plain u ≡ true
 all_plain [] e = refl
 all_plain (b ∷ bs) e =
-    and_both (is_plain b) (list_all is_plain bs) (uid_plain b (and_left (is_uid_byte b) (list_all is_uid_byte bs) e)) (all_plain bs (and_right (is_uid_byte b) (list_all is_uid_byte bs) e))
+    and_both (is_plain b) (list_all is_plain bs) (uid_plain b (and_first (is_uid_byte b) (list_all is_uid_byte bs) e)) (all_plain bs (and_second (is_uid_byte b) (list_all is_uid_byte bs) e))
 
 pub fit_plain : (u : List ℕ) → is_fit u ≡ true → list_all is_plain u ≡ true
 fit_plain u e =
     let rest : Bool = list_all is_uid_byte u && not (names_a_folder u) in
-    all_plain u (and_left (list_all is_uid_byte u) (not (names_a_folder u)) (and_right (nat_le (length u) 64) rest (and_right (nat_lt 0 (length u)) (nat_le (length u) 64 && rest) e)))
+    all_plain u (and_first (list_all is_uid_byte u) (not (names_a_folder u)) (and_second (nat_le (length u) 64) rest (and_second (nat_lt 0 (length u)) (nat_le (length u) 64 && rest) e)))
 
 no_slash : (b : ℕ) (bs : List ℕ) → list_all is_plain (b ∷ bs) ≡ true → is_slash b ≡ false
-no_slash b bs p = plain_slash (b == 0) (is_slash b) (and_left (is_plain b) (list_all is_plain bs) p)
+no_slash b bs p = neither_second (b == 0) (is_slash b) (and_first (is_plain b) (list_all is_plain bs) p)
 
 rest_plain : (b : ℕ) (bs : List ℕ) → list_all is_plain (b ∷ bs) ≡ true → list_all is_plain bs ≡ true
-rest_plain b bs p = and_right (is_plain b) (list_all is_plain bs) p
+rest_plain b bs p = and_second (is_plain b) (list_all is_plain bs) p
 
 no_point : (a : ℕ) → is_fit (a ∷ []) ≡ true → is_dot a ≡ true → ⊥
 no_point a e dot = true_false (is_fit (46 ∷ [])) (subst (λ (x : ℕ). is_fit (x ∷ []) ≡ true) (eqb-true a 46 dot) e) refl
@@ -261,11 +243,8 @@ instance_leads u f =
 abbrev OfFit : Option (List ℕ) → Type 0
 OfFit o = (u : List ℕ) → o ≡ Some u → is_fit u ≡ true
 
-same_some : (o : Option (List ℕ)) (a b : List ℕ) → o ≡ Some a → o ≡ Some b → a ≡ b
-same_some o a b e f = cc
-
 if_fit : (t : Bool) (v u : List ℕ) → is_fit v ≡ t → (if t then Some v else None) ≡ Some u → is_fit u ≡ true
-if_fit true v u e is = subst (λ (x : List ℕ). is_fit x ≡ true) (same_some (Some v) v u refl is) e
+if_fit true v u e is = subst (λ (x : List ℕ). is_fit x ≡ true) (one_value (Some v) v u refl is) e
 if_fit false v u e is = absurd (cc)
 
 fits_of : (o : Option (List ℕ)) → OfFit (fit_of o)
@@ -295,16 +274,10 @@ file_fits bytes answer u ok (of_set m group coding set stop head reads is) = set
 pub file_leads : (bytes : List ℕ) (u : Uids) → FileNames bytes (Ok u) → leads_below (instance_name u) ≡ true
 file_leads bytes u names = instance_leads u (file_fits bytes (Ok u) u refl names)
 
--- some bytes may follow
-no_rest : (how : How) → Allows how []
-no_rest in_part = tt
-no_rest to_end = refl
-no_rest with_failure = tt
-
 -- which is found in the part: a file of these bytes names it
 pub found_names : {S I O : Type 0} (may : MayDo S I O) (r : Reader I) (part : List ℕ) (before : S) (i : Instance) (after : S) → FindsInstance may r part before (Ok i) after → (bytes : List ℕ) × FileNames bytes (Ok (uids_of i))
 found_names may r part before i after (instance.not_opened opens is) = absurd (cc)
-found_names may r part before i after (instance.was_read input left opened opens reads back) = (reads.given ++ [], reads.comes [] (no_rest reads.how))
+found_names may r part before i after (instance.was_read input left opened opens reads back) = (reads.given ++ [], reads.comes [] (allows_nothing reads.how))
 
 -- ---- the part of a run
 

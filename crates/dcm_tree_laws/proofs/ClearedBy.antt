@@ -18,6 +18,7 @@ use Rattle.dcm_trees.specs.Instance as instance
 use Rattle.dcm_trees.specs.Instance.{PlacesPart, NamesBy, NamesPart, FillsByInstance, DoesByInstance, DoesUnnamed, name_of_instance}
 use Rattle.dcm_trees.specs.Lines.{ending_fate}
 use Rattle.dcm_trees.specs.Manner.{Manner}
+use Rattle.dcm_trees.specs.Modes.{Modes}
 use Rattle.dcm_trees.specs.Part as part_spec
 use Rattle.dcm_trees.specs.Part.{MakesPart, NamesOutput, FillsAndNames}
 use Rattle.dcm_tree_laws.specs.FileSystem.{FileSystem, Host, may_do, folders_do, at_path}
@@ -124,8 +125,8 @@ named_leaves {I} {O} {F} h r w e m n mode from start before result to after i (s
 
 -- ---- a file whose output is named by the instance in it
 
-free_name_steps : {I O F : Type 0} (h : Host I O) (IsWhole : ℕ → List ℕ → Type 0) (part output bytes path relative : List ℕ) → path ≡ below output relative → (before : FileSystem) (naming : _) (after : FileSystem)
-    → instance.GivesFreeName (may_do {I = I} h) (folders_do {F = F} h) part path (length output + 1) before naming after → after.unremoved ≡ false → before.unremoved ≡ false
+free_name_steps : {I O F : Type 0} {modes : Modes} (h : Host I O) (IsWhole : ℕ → List ℕ → Type 0) (part output bytes path relative : List ℕ) → path ≡ below output relative → (before : FileSystem) (naming : _) (after : FileSystem)
+    → instance.GivesFreeName (may_do {I = I} h) (folders_do {F = F} h) modes part path (length output + 1) before naming after → after.unremoved ≡ false → before.unremoved ≡ false
 free_name_steps {I} {O} {F} h IsWhole part output bytes path relative is before naming after (instance.not_free place f nf e) = same_mono before after (finds (folders_do {F = F} h) (are_quiet h) path (length output + 1) before place after f)
 free_name_steps {I} {O} {F} h IsWhole part output bytes path relative is before naming after (instance.free place looked f nf g) = λ none.
     same_mono before looked (finds (folders_do {F = F} h) (are_quiet h) path (length output + 1) before place looked f)

@@ -1,7 +1,9 @@
 -- A second run over what a first one left leaves all as it was, and has its rows again.
 use Rattle.std.proofs.Common.{◌≡◌, ◌∙◌, refl, sym, ap, subst, ℕ, List, [], ◌∷◌, ◌++◌, Bool, true, false, Option}
+use Rattle.dcm_lemmas.proofs.Lists.{cons_alike}
 use Rattle.dcm_devices.specs.Writing.{Writer}
 use Rattle.dcm_cli.specs.Calls.{Reader}
+use Rattle.dcm_sinks.proofs.DecodedDumps.PlainTexts.{both_lines}
 use Rattle.dcm_trees.specs.declared.file.Done.{Done}
 use Rattle.dcm_trees.specs.declared.progress.Shared.{Shared}
 use Rattle.dcm_trees.specs.Fate.{word}
@@ -56,9 +58,6 @@ nil_last : {A : Type 0} (xs : List A) (x : A) → [] ≡ xs ++ x ∷ [] → ⊥
 nil_last [] x e = nil_cons x [] e
 nil_last (a ∷ xs) x e = nil_cons a (xs ++ x ∷ []) e
 
-both_cons : {A : Type 0} (a b : A) (s t : List A) → a ≡ b → s ≡ t → a ∷ s ≡ b ∷ t
-both_cons a b s t e f = cc
-
 pub last_same : {A : Type 0} (xs ys : List A) (x y : A) → xs ++ x ∷ [] ≡ ys ++ y ∷ [] → (xs ≡ ys) × (x ≡ y)
 last_same [] [] x y e = (refl, (cons_same x y [] [] e).0)
 last_same [] (b ∷ ys) x y e = absurd (nil_last ys y (cons_same x b [] (ys ++ y ∷ []) e).1)
@@ -66,16 +65,13 @@ last_same (a ∷ xs) [] x y e = absurd (nil_last xs x (sym (cons_same a y (xs ++
 last_same (a ∷ xs) (b ∷ ys) x y e =
     let one = cons_same a b (xs ++ x ∷ []) (ys ++ y ∷ []) e in
     let more = last_same xs ys x y one.1 in
-    (both_cons a b xs ys one.0 more.0, more.1)
+    (cons_alike a b xs ys one.0 more.0, more.1)
 
 pub no_last : {A : Type 0} (visits earlier : List Visit) (v : Visit) → visits ≡ [] → visits ≡ earlier ++ v ∷ [] → A
 no_last visits earlier v none more = absurd (nil_last earlier v (sym none ∙ more))
 
 pub row_as : (v : Visit) (done other : Done) → SameRow v.named done other → row v.named.name (output_of v.named done) (word done.fate) ≡ row v.named.name (output_of v.named other) (word other.fate)
 row_as v done other same = ap (λ (cell : Option (List ℕ)). row v.named.name cell (word done.fate)) same.output_is ∙ ap (row v.named.name (output_of v.named other)) same.word_is
-
-pub both_rows : (a b c d : List ℕ) → a ≡ b → c ≡ d → a ++ c ≡ b ++ d
-both_rows a b c d e f = cc
 
 module _ {I O : Type 0} (h : Host I O) (task : Task) (own output : List ℕ) (start now : Tree) (a b : Shared) (same : b.part ≡ a.part) where
   rows_same : (visits others : List Visit) (text other : List ℕ) (x : RowsOf (WasCopied h task own output start now) a visits text) → RowsOf (WasDoneAgain h task output now) b others other → others ≡ visits → OfRows (FileIsSettledAs h own output) x → OfAll (FileWasThere h start) visits → other ≡ rows_again x
@@ -99,7 +95,7 @@ module _ {I O : Type 0} (h : Host I O) (task : Task) (own output : List ℕ) (st
       let its : WasDoneAgain h task output now v done_there = subst (λ (x : Visit). WasDoneAgain h task output now x done_there) one.1 so_there in
       is_there
       ∙ ap (λ (x : Visit). rest_there ++ row x.named.name (output_of x.named done_there) (word done_there.fate)) one.1
-      ∙ both_rows rest_there (rows_again rows) (row v.named.name (output_of v.named done_there) (word done_there.fate)) (row v.named.name (output_of v.named (again done)) (word (again done).fate))
+      ∙ both_lines rest_there (rows_again rows) (row v.named.name (output_of v.named done_there) (word done_there.fate)) (row v.named.name (output_of v.named (again done)) (word (again done).fate))
       (rows_same earlier before rest rest_there rows rows_there one.0 settled.1 (before_all (FileWasThere h start) earlier v each))
       (row_as v done_there (again done) (its done (so (last_of_all (FileWasThere h start) earlier v each) settled.0)))
 

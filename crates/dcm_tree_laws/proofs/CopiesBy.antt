@@ -1,6 +1,8 @@
 -- A run that names outputs by the instances in them leaves the copies that are there, and all as it was where all are.
-use Rattle.std.proofs.Common.{◌≡◌, ◌∙◌, refl, sym, ap, subst, ℕ, ◌≤◌, List, length, [], ◌∷◌, ◌++◌, Bool, true, false, Option, Some, None, Result, Ok, Err}
+use Rattle.std.proofs.Common.{◌≡◌, ◌∙◌, refl, sym, ap, subst, ℕ, ◌≤◌, List, length, [], ◌∷◌, ◌++◌, true, false, Option, Some, None, Result, Ok, Err}
 use Rattle.std.specs.Prelude.{◌≢◌, if◌then◌else◌}
+use Rattle.dcm_lemmas.proofs.Options.{none_or_some}
+use Rattle.dcm_lemmas.proofs.Truth.{true_false}
 use Rattle.dcm_base.specs.Reading.Reads.{INPUT_LIMIT}
 use Rattle.std.specs.Str.{IsUtf8}
 use Rattle.dcm_devices.specs.Writing.{Writer}
@@ -41,7 +43,6 @@ use Rattle.dcm_tree_laws.specs.Single.{TellsAll}
 use Rattle.dcm_tree_laws.proofs.Near.{IsNear}
 use Rattle.dcm_tree_laws.proofs.CopyLeft.{leads_by, copy_again, none_other, no_link, other_again as other_met, IsMetAgain, IsMetAs}
 use Rattle.dcm_tree_laws.proofs.CopyMade.{by_name}
-use Rattle.dcm_tree_laws.proofs.Given.{none_some}
 use Rattle.dcm_tree_laws.proofs.Left.{sure_quiet}
 use Rattle.dcm_tree_laws.proofs.Lists.{lines_do}
 use Rattle.dcm_tree_laws.proofs.Looking.{same_ok}
@@ -63,6 +64,7 @@ use Rattle.dcm_tree_laws.proofs.Works as works
 pub working_quiet : {I O F : Type 0} (h : Host I O) → Quiet (working_folders h (sure (folders_do {F = F} h)))
 working_quiet {I} {O} {F} h = record {
   finds = λ before path links r after call. (sure_quiet {F = F} h).finds before path links r after call;
+  modes = λ before folder name r after call. (sure_quiet {F = F} h).modes before folder name r after call;
   opens = λ before path r after call. (sure_quiet {F = F} h).opens before path r after call;
   names = λ before folder r left after call. (sure_quiet {F = F} h).names before folder r left after call;
   closes = λ before folder after call. (sure_quiet {F = F} h).closes before folder after call;
@@ -86,7 +88,7 @@ then_as t u v first second = record {
 }
 
 pub apart_by : (t : Tree) (place part : List ℕ) (f : Found) → t.at part ≡ None → t.at place ≡ Some f → place ≡ part → ⊥
-apart_by t place part f none is same = none_some (t.at part) f none (ap t.at (sym same) ∙ is)
+apart_by t place part f none is same = none_or_some (t.at part) f none (ap t.at (sym same) ∙ is)
 
 abbrev copy_stays : {I O : Type 0} (h : Host I O) (task : Task) (part output path : List ℕ) (uids : Uids) (start now : Tree) → at_path h start part ≡ None → Still h part start now → HasCopy h task output start path uids → HasCopy h task output now path uids
 copy_stays h task part output path uids start now none still c = record {
@@ -136,8 +138,9 @@ record Known {I O : Type 0} (h : Host I O) (w : Writer O) (k : Manner) (start s 
   fits : FilesFit start
   still : Still h k.part start s
 
-done_again : {I O F E : Type 0} (h : Host I O) (r : Reader I) (w : Writer O) (e : Writer E) (k : Manner) (n : Named) (mode : ℕ) (uids : Uids) (start : Tree) (from : E) (before : FileSystem) (result : Result Done RunStop) (to : E) (after : FileSystem) → Known h w k start before.now
-    → at_path h before.now k.part ≡ None → is_media_index n.relative ≡ false → (c : HasCopy h k.task k.output start n.path uids) → DoesName (working {F = F} h r w e) k n (File mode) from before result to after → after.unremoved ≡ false → IsDoneAgain e n uids c.verdict from before result to after
+done_again : {I O F E : Type 0} (h : Host I O) (r : Reader I) (w : Writer O) (e : Writer E) (k : Manner) (n : Named) (mode : ℕ) (uids : Uids) (start : Tree) (from : E) (before : FileSystem) (result : Result Done RunStop) (to : E) (after : FileSystem) → (x : Known h w k start before.now)
+    → at_path h before.now k.part ≡ None → is_media_index n.relative ≡ false → (c : HasCopy h k.task k.output start n.path uids) → DoesName (working {F = F} h r w e) k n (File mode) from before result to after → after.unremoved ≡ false
+    → IsDoneAgain e n uids k.task (before.now.bytes (number_of (copy_stays h k.task k.part k.output n.path uids start before.now x.none x.still c).input.file)) c.verdict from before result to after
 done_again {I} {O} {F} h r w e k n mode uids start from before result to after x none no_index c does gone =
     copy_again {F = F} h r w e k n mode uids from before result to after x.tells x.by no_index none (copy_stays h k.task k.part k.output n.path uids start before.now x.none x.still c)
     (leads_by h k.part k.output start uids c.made x.follows x.fits x.text x.none c.there c.same) does gone
@@ -146,8 +149,9 @@ done_again {I} {O} {F} h r w e k n mode uids start from before result to after x
 others_are : {I O : Type 0} (h : Host I O) (task : Task) (output path : List ℕ) (uids : Uids) (t : Tree) → FilesFit t → (c : HasOther h task output t path uids) → t.bytes (number_of c.there.file.found) ≢ c.made
 others_are h task output path uids t fits c = λ equal. c.other (subst (λ (b : List ℕ). length b ≤ INPUT_LIMIT) equal (fits (place_of h (below output (instance_name uids))) c.there.file.found c.there.file.is)) equal
 
-other_done : {I O F E : Type 0} (h : Host I O) (r : Reader I) (w : Writer O) (e : Writer E) (k : Manner) (n : Named) (mode : ℕ) (uids : Uids) (start : Tree) (from : E) (before : FileSystem) (result : Result Done RunStop) (to : E) (after : FileSystem) → Known h w k start before.now
-    → at_path h before.now k.part ≡ None → is_media_index n.relative ≡ false → (c : HasOther h k.task k.output start n.path uids) → DoesName (working {F = F} h r w e) k n (File mode) from before result to after → after.unremoved ≡ false → IsMetAgain e false n uids c.verdict from before result to after
+other_done : {I O F E : Type 0} (h : Host I O) (r : Reader I) (w : Writer O) (e : Writer E) (k : Manner) (n : Named) (mode : ℕ) (uids : Uids) (start : Tree) (from : E) (before : FileSystem) (result : Result Done RunStop) (to : E) (after : FileSystem) → (x : Known h w k start before.now)
+    → at_path h before.now k.part ≡ None → is_media_index n.relative ≡ false → (c : HasOther h k.task k.output start n.path uids) → DoesName (working {F = F} h r w e) k n (File mode) from before result to after → after.unremoved ≡ false
+    → IsMetAgain e false n uids k.task (before.now.bytes (number_of (other_stays h k.task k.part k.output n.path uids start before.now x.none x.still c).input.file)) c.verdict from before result to after
 other_done {I} {O} {F} h r w e k n mode uids start from before result to after x none no_index c does gone =
     other_met {F = F} h r w e k n mode uids from before result to after x.tells x.by no_index x.text none (x.follows k.part (none_other h start k.part x.none))
     (other_stays h k.task k.part k.output n.path uids start before.now x.none x.still c)
@@ -162,7 +166,7 @@ pub written_again : (fate : Fate) → is_written fate ≡ true → fate_again fa
 written_again fates.Written e = refl
 written_again fates.Unplaced e = refl
 written_again fates.There e = absurd (cc)
-written_again fates.Occupied e = absurd (cc)
+written_again fates.Taken e = absurd (cc)
 written_again fates.LeftOut e = absurd (cc)
 written_again fates.MediaIndex e = absurd (cc)
 written_again fates.Unread e = absurd (cc)
@@ -175,7 +179,7 @@ other_again : (fate : Fate) → is_written fate ≡ false → fate_again fate �
 other_again fates.Written e = absurd (cc)
 other_again fates.Unplaced e = absurd (cc)
 other_again fates.There e = refl
-other_again fates.Occupied e = refl
+other_again fates.Taken e = refl
 other_again fates.LeftOut e = refl
 other_again fates.MediaIndex e = refl
 other_again fates.Unread e = refl
@@ -198,14 +202,14 @@ copy_row n done first uids there named its =
     }
 
 -- of another file that is there
-cell_met : (n : Named) (done : Done) (uids : Uids) → done.fate ≡ fates.Occupied → IsNamedBy uids done → output_of n done ≡ Some (instance_name uids)
+cell_met : (n : Named) (done : Done) (uids : Uids) → done.fate ≡ fates.Taken → IsNamedBy uids done → output_of n done ≡ Some (instance_name uids)
 cell_met n done uids is named =
     ap (λ (f : Fate). if has_output f then Some (name_in n.relative done.instance) else None) is
     ∙ ap Some (by_name n.relative done.instance named.relative (instance_name uids) named.instance_is named.relative_is)
 
-other_row : (n : Named) (done first : Done) (uids : Uids) → IsMetAs false uids done → IsNamedBy uids first → first.fate ≡ fates.Occupied → SameRow n done (again first)
+other_row : (n : Named) (done first : Done) (uids : Uids) → IsMetAs false uids done → IsNamedBy uids first → first.fate ≡ fates.Taken → SameRow n done (again first)
 other_row n done first uids met named its =
-    let same : fate_again first.fate ≡ fates.Occupied = ap fate_again its in
+    let same : fate_again first.fate ≡ fates.Taken = ap fate_again its in
     record {
       output_is = cell_met n done uids met.fate_is met.named ∙ sym (cell_met n (again first) uids same (record { relative = named.relative; instance_is = named.instance_is; relative_is = named.relative_is }));
       word_is = ap word met.fate_is ∙ sym (ap word same);
@@ -228,9 +232,6 @@ same_now before after is = subst (λ (s : FileSystem). IsAsItWas before.now s.no
 pub nameless_again : (n : Named) (first : Done) (fate : Fate) (before : FileSystem) (result : Result Done RunStop) (after : FileSystem) → IsAsItWas before.now after.now → result ≡ Ok (without_name fate) → first ≡ without_name fate → is_written fate ≡ false → StandsAgain n first before result after
 nameless_again n first fate before result after same is was not = record { same = same; row = λ done ok. nameless_row n done first fate (same_ok result (without_name fate) done is ok) was not }
 
-true_false : {A : Type 0} (b : Bool) → b ≡ true → b ≡ false → A
-true_false b e f = absurd (cc)
-
 -- a file as it was at the start
 abbrev pub file_still : {I O : Type 0} (h : Host I O) (part path : List ℕ) (start now : Tree) → at_path h start part ≡ None → Still h part start now → FileAt h Followed start path → FileAt h Followed now path
 file_still h part path start now none still f = record {
@@ -242,13 +243,11 @@ file_still h part path start now none still f = record {
 file_again : {I O F E : Type 0} (h : Host I O) (r : Reader I) (w : Writer O) (e : Writer E) (k : Manner) (n : Named) (what : What) (first : Done) (start : Tree) (mode : ℕ) (from : E) (before : FileSystem) (result : Result Done RunStop) (to : E) (after : FileSystem) → Known h w k start before.now
     → at_path h before.now k.part ≡ None → Stands h k.task k.output start (visit_of n what) first → what ≡ File mode → DoesFile (working {F = F} h r w e) k n mode from before result to after → after.unremoved ≡ false → StandsAgain n first before result after
 file_again {I} {O} {F} h r w e k n what first start mode from before result to after x none (of_copy other is index written c) file does gone =
-    let again : IsDoneAgain e n c.uids c.copy.verdict from before result to after =
-    done_again {F = F} h r w e k n mode c.uids start from before result to after x none index c.copy (files.a_file mode refl does) gone in
+    let again = done_again {F = F} h r w e k n mode c.uids start from before result to after x none index c.copy (files.a_file mode refl does) gone in
     record { same = again.same; row = λ done ok. copy_row n done first c.uids (subst (IsThereAs c.uids) (same_ok result done again.done ok again.row) again.there) c.named written }
-file_again {I} {O} {F} h r w e k n what first start mode from before result to after x none (of_other other is index occupied c) file does gone =
-    let again : IsMetAgain e false n c.uids c.met.verdict from before result to after =
-    other_done {F = F} h r w e k n mode c.uids start from before result to after x none index c.met (files.a_file mode refl does) gone in
-    record { same = again.same; row = λ done ok. other_row n done first c.uids (subst (IsMetAs false c.uids) (same_ok result done again.done ok again.row) again.there) c.named occupied }
+file_again {I} {O} {F} h r w e k n what first start mode from before result to after x none (of_other other is index taken c) file does gone =
+    let again = other_done {F = F} h r w e k n mode c.uids start from before result to after x none index c.met (files.a_file mode refl does) gone in
+    record { same = again.same; row = λ done ok. other_row n done first c.uids (subst (IsMetAs false c.uids) (same_ok result done again.done ok again.row) again.there) c.named taken }
 file_again {I} {O} {F} h r w e k n what first start mode from before result to after x none (unnamed other is index f ends not nameless) file does gone =
     let now : FileAt h Followed before.now n.path = file_still h k.part n.path start before.now x.none x.still f.file in
     let u : IsUnnamedAgain first.fate before result after =
@@ -263,7 +262,7 @@ file_again h r w e k n what first start mode from before result to after x none 
 -- what is no file has no output
 no_file_first : {I O : Type 0} (h : Host I O) (task : Task) (output : List ℕ) (t : Tree) (n : Named) (what : What) (first : Done) → ((mode : ℕ) → what ≢ File mode) → Stands h task output t (visit_of n what) first → first ≡ without_name (fate_of what)
 no_file_first h task output t n what first other (of_copy mode is index written c) = absurd (other mode is)
-no_file_first h task output t n what first other (of_other mode is index occupied c) = absurd (other mode is)
+no_file_first h task output t n what first other (of_other mode is index taken c) = absurd (other mode is)
 no_file_first h task output t n what first other (unnamed mode is index f ends not nameless) = absurd (other mode is)
 no_file_first h task output t n what first other (an_index mode is index d) = absurd (other mode is)
 no_file_first h task output t n what first other (no_file others d) = d

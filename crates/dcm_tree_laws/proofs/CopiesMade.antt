@@ -1,7 +1,8 @@
 -- What a run wrote by the instances in its outputs is there for one after it.
-use Rattle.std.proofs.Common.{◌≡◌, ◌∙◌, refl, sym, ap, subst, ℕ, List, [], Bool, true, false, None, Ok}
+use Rattle.std.proofs.Common.{◌≡◌, ◌∙◌, refl, sym, ap, subst, ℕ, List, [], true, false, None, Ok}
 use Rattle.std.specs.Prelude.{◌≢◌}
 use Rattle.std.specs.Str.{IsUtf8}
+use Rattle.dcm_lemmas.proofs.Truth.{true_false}
 use Rattle.dcm_instance.specs.Uids.{instance_name}
 use Rattle.dcm_devices.specs.Writing.{Writer}
 use Rattle.dcm_files.specs.declared.folders.Links.TheVariants.{Followed}
@@ -63,14 +64,14 @@ record Goes {I O : Type 0} (h : Host I O) (w : Writer O) (start : Tree) (k : Man
 -- what the row of a name says, as a run left it
 data IsFirst {I O : Type 0} (h : Host I O) (k : Manner) (start now : Tree) (v : Visit) (done : Done) : Type 0 where
   copied : (mode : ℕ) → v.what ≡ File mode → is_media_index v.named.relative ≡ false → fate_again done.fate ≡ fates.There → (f : HasFile h start v) → CopyMade h k.task k.part k.output (start.bytes (number_of f.file.file)) done now → IsFirst h k start now v done
-  met_other : (mode : ℕ) → v.what ≡ File mode → is_media_index v.named.relative ≡ false → done.fate ≡ fates.Occupied → (f : HasFile h start v) → MetAs h false k.task k.part k.output (start.bytes (number_of f.file.file)) done now → IsFirst h k start now v done
+  met_other : (mode : ℕ) → v.what ≡ File mode → is_media_index v.named.relative ≡ false → done.fate ≡ fates.Taken → (f : HasFile h start v) → MetAs h false k.task k.part k.output (start.bytes (number_of f.file.file)) done now → IsFirst h k start now v done
   was_ended : (mode : ℕ) → v.what ≡ File mode → is_media_index v.named.relative ≡ false → is_written done.fate ≡ false → (f : HasFile h start v) → Ended k.task (start.bytes (number_of f.file.file)) done → IsFirst h k start now v done
   was_index : (mode : ℕ) → v.what ≡ File mode → is_media_index v.named.relative ≡ true → done ≡ without_name fates.MediaIndex → IsFirst h k start now v done
   was_no_file : ((mode : ℕ) → v.what ≢ File mode) → done ≡ without_name (fate_of v.what) → IsFirst h k start now v done
 
 first_stays : {I O : Type 0} (h : Host I O) (k : Manner) (start t u : Tree) (v : Visit) (done : Done) → Stays h k.part k.output t u → IsFirst h k start t v done → IsFirst h k start u v done
 first_stays h k start t u v done stays (copied mode is index written f c) = copied mode is index written f (copy_made_stays h k.task k.part k.output (start.bytes (number_of f.file.file)) done t u stays c)
-first_stays h k start t u v done stays (met_other mode is index occupied f c) = met_other mode is index occupied f (met_stays h false k.task k.part k.output (start.bytes (number_of f.file.file)) done t u stays c)
+first_stays h k start t u v done stays (met_other mode is index taken f c) = met_other mode is index taken f (met_stays h false k.task k.part k.output (start.bytes (number_of f.file.file)) done t u stays c)
 first_stays h k start t u v done stays (was_ended mode is index not f e) = was_ended mode is index not f e
 first_stays h k start t u v done stays (was_index mode is index d) = was_index mode is index d
 first_stays h k start t u v done stays (was_no_file other d) = was_no_file other d
@@ -87,9 +88,6 @@ copy_of {I} {O} {F} h r w e k n what start from before done to after goes none s
     (still.bytes (h.leads Followed n.path) f.file.file (apart_by start (h.leads Followed n.path) (place_of h k.part) f.file.file goes.none f.file.is) f.file.is)
     (copy_made {F = F} h r w e k n what from before done to after goes.tells goes.by none goes.of_output goes.leads f.text now does written)
 
-true_false : {A : Type 0} (b : Bool) → b ≡ true → b ≡ false → A
-true_false b e f = absurd (cc)
-
 -- how a row is settled
 data Settled (fate : Fate) : Type 0 where
   was_written : is_written fate ≡ true → Settled fate
@@ -103,7 +101,7 @@ settled_by fates.There e = was_there refl
 settled_by fates.Refused e = ended_so refl refl
 settled_by fates.Pixels e = ended_so refl refl
 settled_by fates.Unnamed e = ended_so refl refl
-settled_by fates.Occupied e = absurd (cc)
+settled_by fates.Taken e = absurd (cc)
 settled_by fates.LeftOut e = absurd (cc)
 settled_by fates.MediaIndex e = absurd (cc)
 settled_by fates.Unread e = absurd (cc)
@@ -133,12 +131,12 @@ by_settled : {I O F E : Type 0} (h : Host I O) (r : Reader I) (w : Writer O) (e 
     → IsSettledAs h k.part k.output (visit_of n what) done → IsFirst h k start after.now (visit_of n what) done
 by_settled {I} {O} {F} h r w e k n what mode start from before done to after goes none still is index does by f (is_so settled) =
     by_fate {F = F} h r w e k n what mode start from before done to after (settled_by done.fate settled.settled) goes none still is index does by f settled
-by_settled {I} {O} {F} h r w e k n what mode start from before done to after goes none still is index does by f (has_other occupied elsewhere) =
+by_settled {I} {O} {F} h r w e k n what mode start from before done to after goes none still is index does by f (has_other taken elsewhere) =
     let now : FileAt h Followed before.now n.path = file_still h k.part n.path start before.now goes.none still f.file in
-    met_other mode is index occupied f
+    met_other mode is index taken f
     (subst (λ (b : List ℕ). MetAs h false k.task k.part k.output b done after.now)
     (still.bytes (h.leads Followed n.path) f.file.file (apart_by start (h.leads Followed n.path) (place_of h k.part) f.file.file goes.none f.file.is) f.file.is)
-    (met_unnamed F h r w e (whole_gives h r w goes.tells) k goes.of_output goes.leads start goes.follows false n mode from before (Ok done) to after done still none f.text now does refl occupied elsewhere))
+    (met_unnamed F h r w e (whole_gives h r w goes.tells) k goes.of_output goes.leads start goes.follows false n mode from before (Ok done) to after done still none f.text now does refl taken elsewhere))
 
 name_made : {I O F E : Type 0} (h : Host I O) (r : Reader I) (w : Writer O) (e : Writer E) (k : Manner) (n : Named) (what : What) (start : Tree) (from : E) (before : FileSystem) (done : Done) (to : E) (after : FileSystem) → Goes h w start k → before.written ≡ None → Still h k.part start before.now
     → DoesName (working {F = F} h r w e) k n what from before (Ok done) to after → Made h k start after.now (visit_of n what) done
@@ -233,7 +231,7 @@ stands h k start now v done none still (copied mode is index written f c) = of_c
   named = c.named;
   copy = copy_found h k.task k.part k.output v.named.path start now done f.text still f.file (apart_by start (h.leads Followed v.named.path) (place_of h k.part) f.file.file none f.file.is) c;
 })
-stands h k start now v done none still (met_other mode is index occupied f c) = of_other mode is index occupied (record {
+stands h k start now v done none still (met_other mode is index taken f c) = of_other mode is index taken (record {
   uids = c.uids;
   named = c.named;
   met = other_found h k.task k.part k.output v.named.path start now done f.text still f.file (apart_by start (h.leads Followed v.named.path) (place_of h k.part) f.file.file none f.file.is) c;

@@ -3,6 +3,8 @@ use Rattle.std.proofs.Common.{◌≡◌, ◌∙◌, refl, sym, ap, subst, inl, i
 use Rattle.std.specs.Prelude.{◌≢◌, nat_le}
 use Rattle.std.specs.Str.{IsUtf8}
 use Rattle.arrayvec.specs.ArrayVec.{ArrayVec}
+use Rattle.dcm_lemmas.proofs.Options.{none_or_some, one_value}
+use Rattle.dcm_lemmas.proofs.Truth.{true_false}
 use Rattle.dcm_base.specs.Reading.Reads.{INPUT_LIMIT}
 use Rattle.dcm_devices.specs.Writing.{Writer}
 use Rattle.dcm_files.specs.declared.folders.Found.{Found}
@@ -22,7 +24,7 @@ use Rattle.dcm_cli.specs.declared.ending.Ending.TheVariants.{Worked}
 use Rattle.dcm_cli.specs.declared.ending.Verdict.{Verdict}
 use Rattle.dcm_cli.specs.Run.{Answered}
 use Rattle.dcm_trees.specs.declared.fate.Fate.{Fate}
-use Rattle.dcm_trees.specs.declared.fate.Fate.TheVariants.{There, Occupied}
+use Rattle.dcm_trees.specs.declared.fate.Fate.TheVariants.{There, Taken}
 use Rattle.dcm_trees.specs.declared.file.Done.{Done}
 use Rattle.dcm_trees.specs.declared.part.Naming.{Naming}
 use Rattle.dcm_trees.specs.declared.part.Naming.TheVariants.{NotFree}
@@ -36,19 +38,20 @@ use Rattle.dcm_trees.specs.File as files
 use Rattle.dcm_trees.specs.File.{DoesFile, DoesName, is_media_index}
 use Rattle.dcm_trees.specs.Instance as instance
 use Rattle.dcm_trees.specs.Instance.{GivesFreeName, FindsCopy, PlacesPart, NamesBy, NamesPart, FillsByInstance, DoesByInstance, DoesUnnamed, is_there, name_of_instance, ComparesFiles}
-use Rattle.dcm_trees.specs.Lines.{ending_fate, ending_lines, verdict_fate, verdict_lines}
+use Rattle.dcm_cli.specs.Run.{Remarked}
+use Rattle.dcm_cli.specs.declared.ending.Remarks.{Remarks}
+use Rattle.dcm_trees.specs.Lines.{ended_lines, ending_fate, verdict_fate}
 use Rattle.dcm_trees.specs.Manner.{Manner}
 use Rattle.dcm_trees.specs.Part as parts
 use Rattle.dcm_trees.specs.Part.{RemovesPart, ClearsPart, is_moved, naming_lines, naming_fate}
 use Rattle.dcm_trees.specs.Task.{Task}
 use Rattle.dcm_tree_laws.specs.Again.{IsThere, sure}
-use Rattle.dcm_tree_laws.specs.Copies.{HasCopy, HasOther, IsAsItWas, IsNamedBy, IsDoneAgain, CopyIsLeft}
+use Rattle.dcm_tree_laws.specs.Copies.{IsRemarked, HasCopy, HasOther, IsAsItWas, IsNamedBy, IsDoneAgain, CopyIsLeft}
 use Rattle.dcm_tree_laws.specs.Determined.{FileAt, FollowsLinks, FilesFit, ComesTo, working_may, working_folders, as_whole, working}
 use Rattle.dcm_tree_laws.specs.FileSystem.{FileSystem, Tree, Host, Number, number_of, place_of, at_path, may_do, folders_do, MakesFile, TakesPieces, no_piece, and_piece, Closes, ClosesOutput, Removes, SameNames}
 use Rattle.dcm_tree_laws.specs.Single.{IsJobOf, TellsAll}
 use Rattle.dcm_tree_laws.proofs.Ends.{comes_once, one_instance, has_days}
 use Rattle.dcm_tree_laws.proofs.Files.{path_is}
-use Rattle.dcm_tree_laws.proofs.Given.{none_some}
 use Rattle.dcm_tree_laws.proofs.Held.{GivesAll}
 use Rattle.dcm_tree_laws.proofs.Jobs as jobs
 use Rattle.dcm_tree_laws.proofs.Left.{sure_quiet, finds_there, no_free, too_long, same_mode}
@@ -56,11 +59,8 @@ use Rattle.dcm_tree_laws.proofs.Looking as looking
 use Rattle.dcm_tree_laws.proofs.OutputsBy.{Still}
 use Rattle.dcm_tree_laws.proofs.StillBy.{there_stays}
 use Rattle.dcm_tree_laws.proofs.Sure as sures
-use Rattle.dcm_tree_laws.proofs.Working.{working_also, working_sure, whole_gives, IsOpened, is_opened, not_unopened, JobIs, job_found, HasDone, job_done, PartMade, part_made, instance_found, compared_same, compared_bytes}
+use Rattle.dcm_tree_laws.proofs.Working.{working_also, working_sure, whole_gives, IsOpened, is_opened, not_unopened, JobIs, job_found, HasDone, job_done, job_remarked, PartMade, part_made, instance_found, compared_same, compared_bytes}
 use Rattle.dcm_tree_laws.proofs.Works as works
-
-true_false : {A : Type 0} (b : Bool) → b ≡ true → b ≡ false → A
-true_false b e f = absurd (cc)
 
 -- ---- the part is whole
 
@@ -84,8 +84,8 @@ pieces : (n : Number) (all : List ℕ) (before after : FileSystem) → TakesPiec
 pieces n all before after (no_piece same) = subst (λ (s : FileSystem). Wrote n before.now s.now) (sym same) (record { names = λ place. refl; others = λ other. inr refl })
 pieces n all before after (and_piece mid front rest more is takes) = then_wrote n before.now mid.now after.now (pieces n all before mid more) (record { names = takes.names; others = takes.fills.others })
 
-closed : (n : Number) (all : List ℕ) (before after : FileSystem) → Closes n all before after → Wrote n before.now after.now
-closed n all before after c = then_wrote n before.now c.last.now after.now (pieces n all before c.last c.pieces) (record { names = c.names; others = c.fills.others })
+closed : (n : Number) (all kept : List ℕ) (before after : FileSystem) → Closes n all kept before after → Wrote n before.now after.now
+closed n all kept before after c = then_wrote n before.now c.last.now after.now (pieces n all before c.last c.pieces) (record { names = c.names; others = c.fills.others })
 
 -- it is at its path with these bytes, and else is what was there
 pub record WholeAt {I O : Type 0} (h : Host I O) (part held : List ℕ) (before now : Tree) : Type 0 where
@@ -104,11 +104,11 @@ else_same : {A : Type 0} (x y z : Option Found) → A ⊎ (y ≡ x) → z ≡ y 
 else_same x y z (inl a) e = inl a
 else_same x y z (inr d) e = inr (e ∙ d)
 
-pub whole_at : {I O : Type 0} (h : Host I O) (part : List ℕ) (mode : ℕ) (held : List ℕ) (before made after : FileSystem) → MakesFile h part mode before made → ClosesOutput made.written held made after → WholeAt h part held before.now after.now
+pub whole_at : {I O : Type 0} (h : Host I O) (part : List ℕ) (mode : ℕ) (held : List ℕ) (before made after : FileSystem) → MakesFile h part mode before made → ClosesOutput made.written held held made after → WholeAt h part held before.now after.now
 whole_at h part mode held before made after m call =
     let n : Number = number_of m.made in
-    let c : Closes n held made after = subst (λ (x : Option Number). ClosesOutput x held made after) m.notes.written_is call in
-    let wrote : Wrote n made.now after.now = closed n held made after c in
+    let c : Closes n held held made after = subst (λ (x : Option Number). ClosesOutput x held held made after) m.notes.written_is call in
+    let wrote : Wrote n made.now after.now = closed n held held made after c in
     record {
       file = m.made;
       at = wrote.names (place_of h part) ∙ m.puts.there;
@@ -166,7 +166,7 @@ pub record Known {I O : Type 0} (h : Host I O) (r : Reader I) (w : Writer O) (pa
 -- what a file that is met is told as: the same, or another
 abbrev pub met_fate : (alike : Bool) → Fate
 met_fate true = There
-met_fate false = Occupied
+met_fate false = Taken
 
 -- the bytes of a file are these, or others
 abbrev pub AreBytes : (alike : Bool) → (held its : List ℕ) → Type 0
@@ -182,17 +182,19 @@ pub record IsMetAs (alike : Bool) (uids : Uids) (done : Done) : Type 0 where
 abbrev met_lines : (name : List ℕ) → (alike : Bool) → List ℕ
 met_lines name alike = naming_lines name (NotFree places.There) alike
 
-pub record TellsMet {E : Type 0} (errors : Writer E) (name : List ℕ) (alike : Bool) (verdict : Verdict) (from to : E) : Type 0 where
+pub record TellsMet {E : Type 0} (errors : Writer E) (name : List ℕ) (task : Task) (bytes : List ℕ) (alike : Bool) (verdict : Verdict) (from to : E) : Type 0 where
+  pub remarks : Remarks
+  pub remarked : IsRemarked task bytes remarks
   pub mid : E
-  pub told : Reports errors from mid (verdict_lines name verdict)
+  pub told : Reports errors from mid (ended_lines name (Worked verdict) remarks)
   pub more : Reports errors mid to (met_lines name alike)
 
 -- a file is done again, and left
-pub record IsMetAgain {E : Type 0} (errors : Writer E) (alike : Bool) (n : Named) (uids : Uids) (verdict : Verdict) (from : E) (before : FileSystem) (r : Result Done RunStop) (to : E) (after : FileSystem) : Type 0 where
+pub record IsMetAgain {E : Type 0} (errors : Writer E) (alike : Bool) (n : Named) (uids : Uids) (task : Task) (bytes : List ℕ) (verdict : Verdict) (from : E) (before : FileSystem) (r : Result Done RunStop) (to : E) (after : FileSystem) : Type 0 where
   pub done : Done
   pub row : r ≡ Ok done
   pub there : IsMetAs alike uids done
-  pub told : TellsMet errors n.name alike verdict from to
+  pub told : TellsMet errors n.name task bytes alike verdict from to
   pub same : IsAsItWas before.now after.now
 
 no_uids : (cause : NoInstance) (u : Uids) → Err cause ≡ Ok u → ⊥
@@ -220,16 +222,13 @@ fate_there naming fate same alike is so = ap (λ (x : Naming). naming_fate x fat
 pub no_output : {A O : Type 0} (cause : NoPart) (output : O) → Err cause ≡ Ok output → A
 no_output cause output e = absurd (cc)
 
-no_job_by : {A : Type 0} (task : Task) (held : List ℕ) (cause : NoDays) (job : Job) → IsJobOf task held job → JobIs task held (Err cause) → A
+pub no_job_by : {A : Type 0} (task : Task) (held : List ℕ) (cause : NoDays) (job : Job) → IsJobOf task held job → JobIs task held (Err cause) → A
 no_job_by task held (no_days.Refused stop) job is none = has_days task held job stop is none
 no_job_by task held (no_days.Unread count) job is none = absurd none
 no_job_by task held no_days.Unopened job is none = absurd none
 
 file_other : kinds.File ≡ kinds.Other → ⊥
 file_other e = absurd (cc)
-
-same_found : (o : Option Found) (f g : Found) → o ≡ Some f → o ≡ Some g → f ≡ g
-same_found o f g a b = cc
 
 module _ {I O E : Type 0} (F : Type 0) (h : Host I O) (r : Reader I) (w : Writer O) (e : Writer E) (m : Manner) (uids : Uids) (held : List ℕ) (alike : Bool) (known : Known h r w m.part m.output uids held alike) where
   -- the state in which the part is whole, and the copy is there
@@ -249,7 +248,7 @@ module _ {I O E : Type 0} (F : Type 0) (h : Host I O) (r : Reader I) (w : Writer
 
   -- the part gets no name
   gets_none : (s : FileSystem) (naming : Naming) (after : FileSystem) → AtPart s
-      → GivesFreeName (working_may h r w (may_do h)) (working_folders h (sure (folders_do {F = F} h))) m.part (below m.output (instance_name uids)) (length m.output + 1) s naming after → (naming ≡ NotFree places.There) × (after ≡ s)
+      → GivesFreeName (working_may h r w (may_do h)) (working_folders h (sure (folders_do {F = F} h))) m.modes m.part (below m.output (instance_name uids)) (length m.output + 1) s naming after → (naming ≡ NotFree places.There) × (after ≡ s)
   gets_none s naming after x (instance.not_free p f nf named) =
       let path : List ℕ = below m.output (instance_name uids) in
       let seen = sures.finds (working_folders h (sure (folders_do {F = F} h))) (sure (folders_do {F = F} h)) (working_sure {F = F} h).sees path (length m.output + 1) s p after f in
@@ -331,9 +330,9 @@ module _ {I O E : Type 0} (F : Type 0) (h : Host I O) (r : Reader I) (w : Writer
   -- ---- the job
 
   -- it is done again, and left
-  record IsFilled (name : List ℕ) (verdict : Verdict) (from : E) (before : FileSystem) (done : Done) (to : E) (after : FileSystem) : Type 0 where
+  record IsFilled (name bytes : List ℕ) (verdict : Verdict) (from : E) (before : FileSystem) (done : Done) (to : E) (after : FileSystem) : Type 0 where
     there : IsMetAs alike uids done
-    told : TellsMet e name alike verdict from to
+    told : TellsMet e name m.task bytes alike verdict from to
     same : IsAsItWas before.now after.now
 
   -- before the part is made
@@ -342,7 +341,7 @@ module _ {I O E : Type 0} (F : Type 0) (h : Host I O) (r : Reader I) (w : Writer
     there : IsThere h m.output (instance_name uids) s.now
     same : AreBytes alike held (s.now.bytes (number_of there.file.found))
 
-  at_part : (mode : ℕ) (before made s : FileSystem) → Before before → MakesFile h m.part mode before made → ClosesOutput made.written held made s → AtPart s
+  at_part : (mode : ℕ) (before made s : FileSystem) → Before before → MakesFile h m.part mode before made → ClosesOutput made.written held held made s → AtPart s
   at_part mode before made s x makes closes =
       let whole : WholeAt h m.part held before.now s.now = whole_at h m.part mode held before made s makes closes in
       let still : Still h m.part before.now s.now = still_whole h m.part held before.now s.now whole in
@@ -358,7 +357,7 @@ module _ {I O E : Type 0} (F : Type 0) (h : Host I O) (r : Reader I) (w : Writer
   -- a job of these bytes that is done into the part comes to the same
   filled : (job : Job) (name : List ℕ) (mode : ℕ) (input : I) (output : O) (task_bytes : List ℕ) (verdict : Verdict) (from : E) (before made : FileSystem) (done : Done) (to : E) (after : FileSystem) → Before before → MakesFile h m.part mode before made → h.took output ≡ [] → r.has_failed input ≡ false
       → h.holds input ≡ task_bytes → IsJobOf m.task task_bytes job → ComesTo m.task task_bytes held verdict → is_written (verdict_fate verdict) ≡ true → after.unremoved ≡ false → FillsByInstance (working {F = F} h r w e) job m name input output from made done to after
-      → IsFilled name verdict from before done to after
+      → IsFilled name task_bytes verdict from before done to after
   filled job name mode input output task_bytes verdict from before made done to after x makes new sound holds of_job comes written gone (instance.not_done ending was_filled f not told removes is) =
       let d : HasDone job (h.holds input) (h.took f.written) ending = job_done h r w known.all job input output made ending was_filled sound new f in
       let one : (h.took f.written ≡ held) × (d.verdict ≡ verdict) = comes_once m.task task_bytes (h.took f.written) held d.verdict verdict (record { job = job; is_job = of_job; answered = subst (λ (b : List ℕ). Answered job b (h.took f.written) d.verdict) holds d.answered }) comes in
@@ -366,19 +365,25 @@ module _ {I O E : Type 0} (F : Type 0) (h : Host I O) (r : Reader I) (w : Writer
   filled job name mode input output task_bytes verdict from before made done to after x makes new sound holds of_job comes written gone (instance.has_done ending was_filled told f is reports names) =
       let d : HasDone job (h.holds input) (h.took f.written) ending = job_done h r w known.all job input output made ending was_filled sound new f in
       let one : (h.took f.written ≡ held) × (d.verdict ≡ verdict) = comes_once m.task task_bytes (h.took f.written) held d.verdict verdict (record { job = job; is_job = of_job; answered = subst (λ (b : List ℕ). Answered job b (h.took f.written) d.verdict) holds d.answered }) comes in
-      let closes : ClosesOutput made.written held made was_filled =
-      subst (λ (s : FileSystem). ClosesOutput made.written held made s) (sym f.releases) (subst (λ (b : List ℕ). ClosesOutput made.written b made f.closed) one.0 f.closes.0) in
+      let closes : ClosesOutput made.written held held made was_filled =
+      subst (λ (s : FileSystem). ClosesOutput made.written held held made s) (sym f.releases) (subst (λ (b : List ℕ). ClosesOutput made.written b b made f.closed) one.0 f.closes.0) in
       let left : LeftAs name told was_filled done to after = part_named name (ending_fate ending) told was_filled done to after (at_part mode before made was_filled x makes closes) gone names in
       record {
         there = left.there;
-        told = record { mid = told; told = subst (λ (y : Ending). Reports e from told (ending_lines name y)) (d.is ∙ ap Worked one.1) reports; more = left.told };
+        told = record {
+          remarks = f.remarks;
+          remarked = record { job = job; is_job = of_job; remarked = subst (λ (b : List ℕ). Remarked job b f.remarks) holds (job_remarked h r w known.all job input output made ending was_filled sound f) };
+          mid = told;
+          told = subst (λ (y : Ending). Reports e from told (ended_lines name y f.remarks)) (d.is ∙ ap Worked one.1) reports;
+          more = left.told;
+        };
         same = as_it_was h m.part held before was_filled after x.none (whole_at h m.part mode held before made was_filled makes closes) left.gone;
       }
 
   -- what becomes of it
-  again_by : (n : Named) (verdict : Verdict) (from : E) (before opened : FileSystem) (result : Result Done RunStop) (done : Done) (to : E) (after : FileSystem) → opened ≡ before → result ≡ Ok done → IsFilled n.name verdict from opened done to after
-      → IsMetAgain e alike n uids verdict from before result to after
-  again_by n verdict from before opened result done to after same is x = record {
+  again_by : (n : Named) (bytes : List ℕ) (verdict : Verdict) (from : E) (before opened : FileSystem) (result : Result Done RunStop) (done : Done) (to : E) (after : FileSystem) → opened ≡ before → result ≡ Ok done → IsFilled n.name bytes verdict from opened done to after
+      → IsMetAgain e alike n uids m.task bytes verdict from before result to after
+  again_by n bytes verdict from before opened result done to after same is x = record {
     done = done;
     row = is;
     there = x.there;
@@ -388,7 +393,7 @@ module _ {I O E : Type 0} (F : Type 0) (h : Host I O) (r : Reader I) (w : Writer
 
   -- the file is opened, and the part is made
   by_instance : (job : Job) (n : Named) (mode : ℕ) (verdict : Verdict) (from : E) (s : FileSystem) (result : Result Done RunStop) (to : E) (after : FileSystem) → Before s → IsUtf8 n.path → (f : FileAt h Followed s.now n.path) → IsJobOf m.task (s.now.bytes (number_of f.file)) job
-      → ComesTo m.task (s.now.bytes (number_of f.file)) held verdict → is_written (verdict_fate verdict) ≡ true → after.unremoved ≡ false → DoesByInstance (working {F = F} h r w e) job m n mode from s result to after → IsMetAgain e alike n uids verdict from s result to after
+      → ComesTo m.task (s.now.bytes (number_of f.file)) held verdict → is_written (verdict_fate verdict) ≡ true → after.unremoved ≡ false → DoesByInstance (working {F = F} h r w e) job m n mode from s result to after → IsMetAgain e alike n uids m.task (s.now.bytes (number_of f.file)) verdict from s result to after
   by_instance job n mode verdict from s result to after x text f of_job comes written gone (instance.not_opened opens told is) = not_unopened h r w n.path s after text f opens
   by_instance job n mode verdict from s result to after x text f of_job comes written gone (instance.no_part input cause opened tried opens makes back ends) =
       let o : IsOpened h r (s.now.bytes (number_of f.file)) input s opened = is_opened h r w n.path s input opened text f opens in
@@ -398,12 +403,12 @@ module _ {I O E : Type 0} (F : Type 0) (h : Host I O) (r : Reader I) (w : Writer
       let o : IsOpened h r (s.now.bytes (number_of f.file)) input s opened = is_opened h r w n.path s input opened text f opens in
       let here : Before opened = subst Before (sym o.same) x in
       let part : PartMade h m.part mode opened (Ok output) made = part_made {F = F} h m.part mode opened (Ok output) made known.text here.none makes in
-      again_by n verdict from s opened result done to after o.same is
+      again_by n (s.now.bytes (number_of f.file)) verdict from s opened result done to after o.same is
       (filled job n.name mode input output (s.now.bytes (number_of f.file)) verdict from opened made done to after here part.makes (ap h.took (looking.same_ok (Ok output) part.output output part.is refl) ∙ part.new) o.sound o.holds of_job comes written gone fills)
 
   -- its job is found
   unnamed : (n : Named) (mode : ℕ) (verdict : Verdict) (from : E) (s : FileSystem) (result : Result Done RunStop) (to : E) (after : FileSystem) → Before s → IsUtf8 n.path → (f : FileAt h Followed s.now n.path) → ComesTo m.task (s.now.bytes (number_of f.file)) held verdict
-      → is_written (verdict_fate verdict) ≡ true → after.unremoved ≡ false → DoesUnnamed (working {F = F} h r w e) m n mode from s result to after → IsMetAgain e alike n uids verdict from s result to after
+      → is_written (verdict_fate verdict) ≡ true → after.unremoved ≡ false → DoesUnnamed (working {F = F} h r w e) m n mode from s result to after → IsMetAgain e alike n uids m.task (s.now.bytes (number_of f.file)) verdict from s result to after
   unnamed n mode verdict from s result to after x text f comes written gone (instance.no_days cause finds told is) =
       no_job_by m.task (s.now.bytes (number_of f.file)) cause comes.job comes.is_job (job_found h r w known.all m.task n.path s (Err cause) after text f finds)
   unnamed n mode verdict from s result to after x text f comes written gone (instance.has_job job mid finds does) =
@@ -412,7 +417,7 @@ module _ {I O E : Type 0} (F : Type 0) (h : Host I O) (r : Reader I) (w : Writer
       (subst (λ (t : FileSystem). DoesByInstance (working {F = F} h r w e) job m n mode from t result to after) same does)
 
   file_again : (n : Named) (mode : ℕ) (verdict : Verdict) (from : E) (s : FileSystem) (result : Result Done RunStop) (to : E) (after : FileSystem) → m.keeps_names ≡ false → is_media_index n.relative ≡ false → Before s → IsUtf8 n.path → (f : FileAt h Followed s.now n.path)
-      → ComesTo m.task (s.now.bytes (number_of f.file)) held verdict → is_written (verdict_fate verdict) ≡ true → after.unremoved ≡ false → DoesFile (working {F = F} h r w e) m n mode from s result to after → IsMetAgain e alike n uids verdict from s result to after
+      → ComesTo m.task (s.now.bytes (number_of f.file)) held verdict → is_written (verdict_fate verdict) ≡ true → after.unremoved ≡ false → DoesFile (working {F = F} h r w e) m n mode from s result to after → IsMetAgain e alike n uids m.task (s.now.bytes (number_of f.file)) verdict from s result to after
   file_again n mode verdict from s result to after by no_index x text f comes written gone (files.an_index index told is same) = true_false (is_media_index n.relative) index no_index
   file_again n mode verdict from s result to after by no_index x text f comes written gone (files.keeps_name became index kept does is) = true_false m.keeps_names kept by
   file_again n mode verdict from s result to after by no_index x text f comes written gone (files.by_instance index not does) = unnamed n mode verdict from s result to after x text f comes written gone does
@@ -427,20 +432,20 @@ pub record Leads {I O : Type 0} (h : Host I O) (part output : List ℕ) (uids : 
   pub fits : length made ≤ INPUT_LIMIT
 
 -- where only the end of it is told
-as_done : {E : Type 0} (e : Writer E) (n : Named) (uids : Uids) (verdict : Verdict) (from : E) (before : FileSystem) (result : Result Done RunStop) (to : E) (after : FileSystem) → IsMetAgain e true n uids verdict from before result to after → IsDoneAgain e n uids verdict from before result to after
-as_done e n uids verdict from before result to after x = record {
+as_done : {E : Type 0} (e : Writer E) (n : Named) (uids : Uids) (task : Task) (bytes : List ℕ) (verdict : Verdict) (from : E) (before : FileSystem) (result : Result Done RunStop) (to : E) (after : FileSystem) → IsMetAgain e true n uids task bytes verdict from before result to after → IsDoneAgain e n uids task bytes verdict from before result to after
+as_done e n uids task bytes verdict from before result to after x = record {
   done = x.done;
   row = x.row;
   there = record { fate_is = x.there.fate_is; named = x.there.named };
-  told = record { mid = x.told.mid; told = x.told.told; no_more = x.told.more };
+  told = record { remarks = x.told.remarks; remarked = x.told.remarked; mid = x.told.mid; told = x.told.told; no_more = x.told.more };
   same = x.same;
 }
 
 pub copy_again : {I O F E : Type 0} (h : Host I O) (r : Reader I) (w : Writer O) (e : Writer E) (m : Manner) (n : Named) (mode : ℕ) (uids : Uids) (from : E) (before : FileSystem) (result : Result Done RunStop) (to : E) (after : FileSystem) → TellsAll h w → m.keeps_names ≡ false
     → is_media_index n.relative ≡ false → at_path h before.now m.part ≡ None → (c : HasCopy h m.task m.output before.now n.path uids) → Leads h m.part m.output uids c.made → DoesName (working {F = F} h r w e) m n (File mode) from before result to after → after.unremoved ≡ false
-    → IsDoneAgain e n uids c.verdict from before result to after
+    → IsDoneAgain e n uids m.task (before.now.bytes (number_of c.input.file)) c.verdict from before result to after
 copy_again {I} {O} {F} h r w e m n mode uids from before result to after tells by no_index none c leads (files.a_file other is does) gone =
-    as_done e n uids c.verdict from before result to after
+    as_done e n uids m.task (before.now.bytes (number_of c.input.file)) c.verdict from before result to after
     (file_again F h r w e m uids c.made true
     (record { all = whole_gives h r w tells; text = leads.text; leads_part = leads.part_leads; leads_path = leads.path_leads; names = c.names; fits = λ so. leads.fits }) n mode c.verdict from before result to after by no_index
     (record { none = none; there = c.there; same = c.same }) c.text c.input c.comes c.done gone (subst (λ (k : ℕ). DoesFile (working {F = F} h r w e) m n k from before result to after) (sym (same_mode mode other is)) does))
@@ -448,10 +453,10 @@ copy_again h r w e m n mode uids from before result to after tells by no_index n
 
 -- where nothing is there, or a file, no link is
 pub none_other : {I O : Type 0} (h : Host I O) (t : Tree) (path : List ℕ) → at_path h t path ≡ None → (f : Found) → at_path h t path ≡ Some f → f.kind ≢ kinds.Other
-none_other h t path none f is kind = none_some (at_path h t path) f none is
+none_other h t path none f is kind = none_or_some (at_path h t path) f none is
 
 pub no_link : (o : Option Found) (f g : Found) → o ≡ Some f → f.kind ≡ kinds.File → o ≡ Some g → g.kind ≢ kinds.Other
-no_link o f g is file at other = file_other (sym file ∙ ap (λ (x : Found). x.kind) (same_found o f g is at) ∙ other)
+no_link o f g is file at other = file_other (sym file ∙ ap (λ (x : Found). x.kind) (one_value o f g is at) ∙ other)
 
 pub leads_by : {I O : Type 0} (h : Host I O) (part output : List ℕ) (t : Tree) (uids : Uids) (made : List ℕ) → FollowsLinks h t → FilesFit t → IsUtf8 part → at_path h t part ≡ None → (there : IsThere h output (instance_name uids) t) → t.bytes (number_of there.file.found) ≡ made
     → Leads h part output uids made
@@ -469,7 +474,7 @@ copy_is_left {I} {O} {F} r w e h m n mode uids from before result to after tells
 -- another file that is there is left too
 pub other_again : {I O F E : Type 0} (h : Host I O) (r : Reader I) (w : Writer O) (e : Writer E) (m : Manner) (n : Named) (mode : ℕ) (uids : Uids) (from : E) (before : FileSystem) (result : Result Done RunStop) (to : E) (after : FileSystem) → TellsAll h w → m.keeps_names ≡ false
     → is_media_index n.relative ≡ false → IsUtf8 m.part → at_path h before.now m.part ≡ None → h.leads Followed m.part ≡ place_of h m.part → (c : HasOther h m.task m.output before.now n.path uids) → h.leads Followed (below m.output (instance_name uids)) ≡ place_of h (below m.output (instance_name uids))
-    → before.now.bytes (number_of c.there.file.found) ≢ c.made → DoesName (working {F = F} h r w e) m n (File mode) from before result to after → after.unremoved ≡ false → IsMetAgain e false n uids c.verdict from before result to after
+    → before.now.bytes (number_of c.there.file.found) ≢ c.made → DoesName (working {F = F} h r w e) m n (File mode) from before result to after → after.unremoved ≡ false → IsMetAgain e false n uids m.task (before.now.bytes (number_of c.input.file)) c.verdict from before result to after
 other_again {I} {O} {F} h r w e m n mode uids from before result to after tells by no_index text none part_leads c path_leads others (files.a_file other is does) gone =
     file_again F h r w e m uids c.made false
     (record { all = whole_gives h r w tells; text = text; leads_part = part_leads; leads_path = path_leads; names = c.names; fits = λ so. absurd (cc) }) n mode c.verdict from before result to after by no_index

@@ -1,8 +1,10 @@
 -- An output that was named by the instance in it is there for a run after it.
-use Rattle.std.proofs.Common.{◌≡◌, ◌∙◌, refl, sym, ap, subst, ℕ, List, [], length, Bool, true, false, Option, Some, None, Result, Ok}
-use Rattle.std.specs.Prelude.{◌≢◌, nat_le, if◌then◌else◌}
+use Rattle.std.proofs.Common.{◌≡◌, ◌∙◌, refl, sym, ap, subst, ℕ, List, [], length, true, false, Option, Some, None, Result, Ok}
+use Rattle.std.specs.Prelude.{◌≢◌, nat_le}
 use Rattle.std.specs.Str.{IsUtf8}
 use Rattle.arrayvec.specs.ArrayVec.{ArrayVec}
+use Rattle.dcm_lemmas.proofs.Choice.{chosen_some}
+use Rattle.dcm_lemmas.proofs.Truth.{true_false}
 use Rattle.dcm_devices.specs.Writing.{Writer}
 use Rattle.dcm_files.specs.declared.folders.Links.TheVariants.{Followed}
 use Rattle.dcm_instance.specs.declared.names.Instance.{Instance}
@@ -39,6 +41,7 @@ use Rattle.dcm_tree_laws.specs.Laws.{over}
 use Rattle.dcm_tree_laws.specs.Outputs.{HasOutput}
 use Rattle.dcm_tree_laws.specs.Single.{IsJobOf, TellsAll}
 use Rattle.dcm_tree_laws.proofs.Near.{IsNear, Stays}
+use Rattle.dcm_tree_laws.proofs.Closing.{finished_of}
 use Rattle.dcm_tree_laws.proofs.CopyLeft.{WholeAt, whole_at, followed}
 use Rattle.dcm_tree_laws.proofs.Ends.{comes_once}
 use Rattle.dcm_tree_laws.proofs.Given.{NewOutput}
@@ -49,8 +52,8 @@ use Rattle.dcm_tree_laws.proofs.MadeBy.{MadeAt, made_stays, made_there, new_made
 use Rattle.dcm_tree_laws.proofs.OutputsBy.{Still}
 use Rattle.dcm_tree_laws.proofs.SinglesBy.{opens_holds, job_is}
 use Rattle.dcm_tree_laws.proofs.Steps.{no_step}
-use Rattle.dcm_tree_laws.proofs.Written.{FileGives, not_written, true_not, days_not, instance_not, what_not}
-use Rattle.dcm_tree_laws.proofs.WrittenBy.{ends_not, name_out}
+use Rattle.dcm_tree_laws.proofs.Written.{FileGives, true_not, days_not, instance_not, what_not}
+use Rattle.dcm_tree_laws.proofs.WrittenBy.{ends_not, name_out, no_output}
 use Rattle.dcm_tree_laws.proofs.Working.{working_also, working_can, whole_gives, IsOpened, is_opened, HasDone, finishes_comes, job_found, instance_found}
 use Rattle.dcm_tree_laws.proofs.Works as works
 
@@ -81,9 +84,6 @@ gives_made h r w all task path mode s f = λ job mid finds input opened opens le
 
 -- ---- the instance that names it
 
-no_output : {A : Type 0} (done : Done) (fate : Fate) → done ≡ without_name fate → is_written fate ≡ false → is_written done.fate ≡ true → A
-no_output {A} done fate is not written = not_written done.fate fate (ap (λ (d : Done). d.fate) is) not written
-
 -- one is in the bytes that a job writes of a file with these bytes, and names them by a path that is short enough
 record Chosen (task : Task) (output file_bytes : List ℕ) (done : Done) : Type 0 where
   uids : Uids
@@ -92,13 +92,6 @@ record Chosen (task : Task) (output file_bytes : List ℕ) (done : Done) : Type 
   names : FileNames bytes (Ok uids)
   named : IsNamedBy uids done
   fits : nat_le (length (below output (instance_name uids))) PATH_LIMIT ≡ true
-
-fits_if : (b : Bool) (path other : List ℕ) → (if b then Some path else None) ≡ Some other → b ≡ true
-fits_if true path other e = refl
-fits_if false path other e = absurd (cc)
-
-true_false : {A : Type 0} (b : Bool) → b ≡ true → b ≡ false → A
-true_false b e f = absurd (cc)
 
 -- the part is made
 pub record NewPart {I O : Type 0} (h : Host I O) (part : List ℕ) (mode : ℕ) (before : FileSystem) (output : O) (after : FileSystem) : Type 0 where
@@ -123,7 +116,7 @@ module _ {I O F E : Type 0} (h : Host I O) (r : Reader I) (w : Writer O) (e : Wr
     made = made;
     names = names;
     named = record { relative = relative; instance_is = ap (λ (x : Done). x.instance) d; relative_is = rel };
-    fits = fits_if (nat_le (length (below m.output (name_of_instance i))) PATH_LIMIT) (below m.output (name_of_instance i)) path at;
+    fits = chosen_some (nat_le (length (below m.output (name_of_instance i))) PATH_LIMIT) (below m.output (name_of_instance i)) path at;
   }
 
   chosen_part : (name file_bytes bytes : List ℕ) (fate : Fate) (from : E) (s : FileSystem) (done : Done) (to : E) (after : FileSystem) → IsMade m.task file_bytes bytes → IsUtf8 m.part → (f : FileAt h Followed s.now m.part) → s.now.bytes (number_of f.file) ≡ bytes
@@ -136,8 +129,8 @@ module _ {I O F E : Type 0} (h : Host I O) (r : Reader I) (w : Writer O) (e : Wr
       → IsJobOf m.task file_bytes job → FillsByInstance (working {F = F} h r w e) job m name input output from made done to after → is_written done.fate ≡ true → Chosen m.task m.output file_bytes done
   chosen_filled job name mode input output file_bytes from opened made done to after text makes new holds of_job (instance.not_done ending was_filled f not told removes is) written = no_output done (ending_fate ending) is not written
   chosen_filled job name mode input output file_bytes from opened made done to after text makes new holds of_job (instance.has_done ending was_filled told f is reports names) written =
-      let d : HasDone job file_bytes (h.took f.written) ending = subst (λ (b : List ℕ). HasDone job b (h.took f.written) ending) holds (finishes_comes h (as_whole h r) w all job input f.left output f.written ending new f.finished is) in
-      let closes : ClosesOutput made.written (h.took f.written) made was_filled = subst (λ (s : FileSystem). ClosesOutput made.written (h.took f.written) made s) (sym f.releases) f.closes.0 in
+      let d : HasDone job file_bytes (h.took f.written) ending = subst (λ (b : List ℕ). HasDone job b (h.took f.written) ending) holds (finishes_comes h (as_whole h r) w all job input f.left output f.written ending new (finished_of f is) is) in
+      let closes : ClosesOutput made.written (h.took f.written) (h.took f.written) made was_filled = subst (λ (s : FileSystem). ClosesOutput made.written (h.took f.written) (h.took f.written) made s) (sym f.releases) f.closes.0 in
       let whole : WholeAt h m.part (h.took f.written) opened.now was_filled.now = whole_at h m.part mode (h.took f.written) opened made was_filled makes closes in
       chosen_part name file_bytes (h.took f.written) (ending_fate ending) told was_filled done to after (is_made m.task file_bytes (h.took f.written) job ending of_job d is) text (followed h was_filled.now m.part whole.file leads whole.at whole.kind) whole.bytes names written
 

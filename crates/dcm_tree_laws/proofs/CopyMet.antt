@@ -4,12 +4,16 @@ use Rattle.std.specs.Prelude.{◌≢◌, nat_le, slice_index}
 use Rattle.std.specs.Option.{is_none}
 use Rattle.std.specs.Str.{IsUtf8}
 use Rattle.std.proofs.lemmas.Bool.{cases_lt}
+use Rattle.dcm_lemmas.proofs.Options.{some_none}
+use Rattle.dcm_lemmas.proofs.Truth.{true_false}
 use Rattle.dcm_base.specs.Reading.Reads.{INPUT_LIMIT}
 use Rattle.dcm_devices.specs.Writing.{Writer}
 use Rattle.dcm_files.specs.declared.folders.Found.{Found}
 use Rattle.dcm_files.specs.declared.folders.FoundKind.{FoundKind}
 use Rattle.dcm_files.specs.declared.folders.FoundKind.TheVariants as kinds
 use Rattle.dcm_files.specs.declared.folders.Links.TheVariants.{Followed}
+use Rattle.dcm_tree_laws.proofs.Placing.{same_place}
+use Rattle.dcm_tree_laws.proofs.VisitedBy.{inner_way}
 use Rattle.dcm_walk.specs.List.{IsSlash}
 use Rattle.dcm_walk.specs.Names.{below, is_slash, PATH_LIMIT}
 use Rattle.dcm_cli.specs.Calls.{Reader}
@@ -22,6 +26,7 @@ use Rattle.dcm_trees.specs.Fate.{is_written}
 use Rattle.dcm_trees.specs.Instance as instance
 use Rattle.dcm_trees.specs.Instance.{GivesFreeName, FindsCopy, ComparesFiles, PlacesPart, is_there}
 use Rattle.dcm_trees.specs.Manner.{Manner}
+use Rattle.dcm_trees.specs.Modes.{Modes}
 use Rattle.dcm_trees.specs.Part as parts
 use Rattle.dcm_trees.specs.Part.{MovesPart, MovesIfFree, GivesSecondName, GivesName, naming_fate}
 use Rattle.dcm_trees.specs.Place as places
@@ -37,7 +42,7 @@ use Rattle.dcm_tree_laws.proofs.Held.{GivesAll}
 use Rattle.dcm_tree_laws.proofs.Jobs as jobs
 use Rattle.dcm_tree_laws.proofs.Left.{sure_quiet}
 use Rattle.dcm_tree_laws.proofs.Looking as looking
-use Rattle.dcm_tree_laws.proofs.MadeBy.{MadeAt, made_stays, way_joined, within_it}
+use Rattle.dcm_tree_laws.proofs.MadeBy.{MadeAt, made_stays, within_it}
 use Rattle.dcm_tree_laws.proofs.MadeWay.{kinds_apart, SeenFolder, seen_folder, is_first, up_to_last, in_path}
 use Rattle.dcm_tree_laws.proofs.Naming.{phase_of, clears_part}
 use Rattle.dcm_tree_laws.proofs.Steps.{idle, whole, Steps}
@@ -47,12 +52,6 @@ use Rattle.dcm_tree_laws.proofs.Working.{working_also, working_can, working_sure
 use Rattle.dcm_tree_laws.proofs.Works as works
 
 -- ---- what was seen
-
-true_false : {A : Type 0} (b : Bool) → b ≡ true → b ≡ false → A
-true_false b e f = absurd (cc)
-
-some_none : {A : Type 0} (w : A) → Some w ≡ None → ⊥
-some_none w e = absurd (cc)
 
 kind_ends : (kind : FoundKind) (way : _) → (end_at kinds.File ≡ Some way → ⊥) → end_at kind ≡ Some way → ⊥
 kind_ends kinds.Folder way block e = absurd (cc)
@@ -131,9 +130,9 @@ module _ {I O : Type 0} (F : Type 0) (h : Host I O) (path : List ℕ) (base : �
     where
       no_place : (p : Place) → p ≡ spots.There → p ≡ spots.Free → ⊥
       no_place p a b = absurd (cc)
-  place_there s place after there (places.blocked l is) = absurd (no_place spots.Taken (sym is ∙ there) refl)
+  place_there s place after there (places.blocked l is) = absurd (no_place spots.Barred (sym is ∙ there) refl)
     where
-      no_place : (p : Place) → p ≡ spots.There → p ≡ spots.Taken → ⊥
+      no_place : (p : Place) → p ≡ spots.There → p ≡ spots.Barred → ⊥
       no_place p a b = absurd (cc)
   place_there s place after there (places.at_its_end seen mid l looked_at is) =
       let same : mid ≡ s = looking.along (sure (folders_do {F = F} h)) (sure_quiet h) path base s _ mid l in
@@ -143,9 +142,6 @@ module _ {I O : Type 0} (F : Type 0) (h : Host I O) (path : List ℕ) (base : �
       }
 
 -- ---- what was met
-
-same_place : (a b : Place) → NotFree a ≡ NotFree b → a ≡ b
-same_place a b e = cc
 
 not_free : (naming : Naming) (place : Place) → naming ≡ NotFree place → naming ≡ Linked → ⊥
 not_free naming place a b = absurd (cc)
@@ -173,7 +169,7 @@ module _ {I O : Type 0} (F : Type 0) (h : Host I O) (r : Reader I) (w : Writer O
   met_second s naming named there (parts.linked t u call is) = absurd (not_free naming spots.There there is)
   met_second s naming named there (parts.not_linked e tried t u call moves) = met_moving tried naming named there moves
 
-  met : (s : FileSystem) (naming : Naming) (named : FileSystem) → naming ≡ NotFree spots.There → GivesFreeName (working_may h r w (may_do h)) (working_folders h (sure (folders_do {F = F} h))) part path base s naming named → FileThere F h path base named
+  met : {modes : Modes} (s : FileSystem) (naming : Naming) (named : FileSystem) → naming ≡ NotFree spots.There → GivesFreeName (working_may h r w (may_do h)) (working_folders h (sure (folders_do {F = F} h))) modes part path base s naming named → FileThere F h path base named
   met s naming named there (instance.not_free place f nf is) = met_by_looking s place naming named there is f
   met s naming named there (instance.free place looked f nf (parts.no_way e m is)) = absurd (not_failed naming spots.There there is)
   met s naming named there (instance.free place looked f nf (parts.on_its_way has m g)) = met_second has naming named there g
@@ -190,14 +186,14 @@ there_naming true Linked fate same written e = true_false (is_written fate) writ
 there_naming true Moved fate same written e = true_false (is_written fate) written (ap is_written e)
 there_naming true (NotFree spots.There) fate true written e = (refl, refl)
 there_naming true (NotFree spots.There) fate false written e = absurd (cc)
-there_naming true (NotFree spots.Taken) fate same written e = absurd (cc)
+there_naming true (NotFree spots.Barred) fate same written e = absurd (cc)
 there_naming true (NotFree spots.Free) fate same written e = absurd (cc)
 there_naming true Failed fate same written e = absurd (cc)
 there_naming false Linked fate same written e = true_false (is_written fate) written (ap is_written e)
 there_naming false Moved fate same written e = true_false (is_written fate) written (ap is_written e)
 there_naming false (NotFree spots.There) fate true written e = absurd (cc)
 there_naming false (NotFree spots.There) fate false written e = (refl, refl)
-there_naming false (NotFree spots.Taken) fate same written e = absurd (cc)
+there_naming false (NotFree spots.Barred) fate same written e = absurd (cc)
 there_naming false (NotFree spots.Free) fate same written e = absurd (cc)
 there_naming false Failed fate same written e = absurd (cc)
 
@@ -235,7 +231,7 @@ module _ {I O E : Type 0} (F : Type 0) (h : Host I O) (r : Reader I) (w : Writer
         text = there.file.text;
         out = record { file = there.file.found; is = there.file.is; kind = there.file.kind_is; whole = subst (λ (b : List ℕ). MetBytes alike b (p.named.now.bytes (number_of there.file.found))) part.done met_bytes; apart = apart };
         way = λ folder behind cut.
-            let at : IsAt h kinds.Folder p.named.now (below m.output folder) = there.way (below m.output folder) behind (way_joined m.output relative folder behind cut) (omega (arith, within_it m.output folder)) in
+            let at : IsAt h kinds.Folder p.named.now (below m.output folder) = there.way (below m.output folder) behind (inner_way m.output relative folder behind cut) (omega (arith, within_it m.output folder)) in
             record { at = at; apart = kinds_apart p.named.now (place_of h (below m.output folder)) (place_of h m.part) at.found part.file at.is part.is at.kind_is part.kind };
       } in
       let compared : p.compared ≡ p.named = jobs.finds_copy h (as_whole h r) p.naming m.part path p.named p.same p.compared

@@ -1,90 +1,72 @@
 -- A run over a tree is refused, or its names are visited from a state in which it was begun.
 use Rattle.std.proofs.Common.{◌≡◌, ◌∙◌, refl, sym, ap, subst, inl, inr, ◌⊎◌, ℕ, List, Bool, true, false, Option, Some, None, Result, Ok, Err}
-use Rattle.std.specs.Str.{IsUtf8}
+use Rattle.arrayvec.specs.ArrayVec.{ArrayVec}
 use Rattle.std.specs.declared.io.Error.{Error}
 use Rattle.dcm_devices.specs.Writing.{Writer}
 use Rattle.dcm_files.specs.Devices as devices
 use Rattle.dcm_files.specs.Devices.{MayDo, OpensInput}
 use Rattle.dcm_files.specs.Folders.{FoldersDo}
 use Rattle.dcm_files.specs.declared.folders.Found.{Found}
-use Rattle.dcm_files.specs.declared.folders.Links.{Links}
-use Rattle.dcm_files.specs.declared.folders.Links.TheVariants.{Kept, Followed}
+use Rattle.dcm_files.specs.declared.folders.FoundKind.TheVariants.{File, Folder}
+use Rattle.dcm_files.specs.declared.folders.Links.TheVariants.{Followed}
 use Rattle.dcm_files.specs.declared.opened.Opened.{Opened}
 use Rattle.dcm_tree_words.specs.Trees.{Source, folder, list}
 use Rattle.dcm_cli.specs.Calls.{Reader}
+use Rattle.dcm_lemmas.proofs.Options.{one_value}
+use Rattle.dcm_walk.specs.Names.{below}
 use Rattle.dcm_walk.specs.declared.folder.FolderNumber.{FolderNumber}
 use Rattle.dcm_trees.specs.declared.beginning.Begun.{Begun}
 use Rattle.dcm_trees.specs.declared.beginning.Refusal.{Refusal}
+use Rattle.dcm_trees.specs.declared.beginning.Spared.{Spared}
 use Rattle.dcm_trees.specs.declared.run.TreeRun.{TreeRun}
 use Rattle.dcm_trees.specs.Beginning as beginning
-use Rattle.dcm_trees.specs.Beginning.{MakesFolder, MakesOutput, MakesApart, HasOutput, ChecksPart, Begins, parent_of}
+use Rattle.dcm_trees.specs.Beginning.{MakesFolder, MakesOutput, MakesApart, HasOutput, ClearsWay, IsPart, Begins, parent_of}
+use Rattle.dcm_trees.specs.Modes.{Modes}
 use Rattle.dcm_trees.specs.Tree as spec
-use Rattle.dcm_trees.specs.Tree.{OpensFolder, OpensTree, VisitsFolder, VisitsList, DoesOpened, DoesFolder, DoesNames, DoesList, DoesTree, part_of}
+use Rattle.dcm_trees.specs.Tree.{OpensFolder, OpensTree, VisitsFolder, VisitsList, DoesOpened, DoesFolder, DoesNames, DoesList, DoesTree, part_of, spared_of, spared_with}
 use Rattle.dcm_trees.specs.World.{World}
 use Rattle.dcm_tree_laws.specs.Again.{sure, over_sure}
 use Rattle.dcm_tree_laws.specs.Course as course
-use Rattle.dcm_tree_laws.specs.Course.{IsMade, OnlyOutput, Ready, ComesTo, EachBeginsSo, RunsBeginSo, RunsOfHeldBeginSo, SureRunsBeginSo, WorkingRunsBeginSo}
+use Rattle.dcm_tree_laws.specs.Course.{IsMade, IsCleared, OnlyOutput, IsNumberAt, TellsLeft, nothing_told, Ready, ComesTo, EachBeginsSo, RunsBeginSo, RunsOfHeldBeginSo, SureRunsBeginSo, WorkingRunsBeginSo}
 use Rattle.dcm_tree_laws.specs.Determined.{working, working_may, working_folders}
 use Rattle.dcm_tree_laws.specs.FileSystem as files
-use Rattle.dcm_tree_laws.specs.FileSystem.{FileSystem, Tree, Host, OrFails, begins, may_do, folders_do, place_of, at_path}
+use Rattle.dcm_tree_laws.specs.FileSystem.{FileSystem, Tree, Host, SameBytes, begins, may_do, folders_do, place_of, at_path}
 use Rattle.dcm_tree_laws.specs.Laws.{over, part_path}
 use Rattle.dcm_tree_laws.specs.Single.{as_held}
-use Rattle.dcm_tree_laws.proofs.Beginnings.{numbers, climbs, is_there, numbers_folder, compares, checks_part, checks_use}
+use Rattle.dcm_tree_laws.proofs.Beginnings.{numbers, climbs, is_there, numbers_folder, compares, checks_use, is_part, begins_told}
+use Rattle.dcm_tree_laws.proofs.Clearing as clearing
+use Rattle.dcm_tree_laws.proofs.Clearing.{FoldersOver, InputsOver, folders_over, inputs_over, Clearing, IsClear, way_clearing, way_clear}
+use Rattle.dcm_tree_laws.proofs.Given.{is_file}
 use Rattle.dcm_tree_laws.proofs.Left.{sure_quiet}
-use Rattle.dcm_tree_laws.proofs.Looking.{same_ok}
-use Rattle.dcm_tree_laws.proofs.NumberAt.{begun_at}
+use Rattle.dcm_tree_laws.proofs.Looking.{finds_mode, same_ok}
+use Rattle.dcm_tree_laws.proofs.NumberAt.{FolderThere, has_at, folder_there}
 use Rattle.dcm_tree_laws.proofs.Onwards.{calls_quiet}
-use Rattle.dcm_tree_laws.proofs.Quiet.{Quiet, are_quiet}
+use Rattle.dcm_tree_laws.proofs.Quiet.{Quiet}
 use Rattle.dcm_tree_laws.proofs.Runs.{begun_part}
 
 -- ---- worlds over a file system
-
--- of the calls of folders that a run makes before its first name, those that look leave it as it is, and see what is
--- there, and one makes a folder where nothing is
-pub record FoldersOver {I O F : Type 0} (h : Host I O) (d : FoldersDo FileSystem O F) : Type 0 where
-  pub quiet : Quiet d
-  pub finds : (before : FileSystem) (path : List ℕ) (links : Links) (found : Option Found) (after : FileSystem) → d.finds before path links (Ok found) after → found ≡ before.now.at (h.leads links path)
-  pub makes : (before : FileSystem) (path : List ℕ) (r : Result (Unit {0}) Error) (after : FileSystem) → d.makes_folder before path r after → OrFails r (files.MakesFolder h path before after) before after
-
--- to open an input and to give it back leaves it as it is
-pub record InputsOver {I O : Type 0} (may : MayDo FileSystem I O) : Type 0 where
-  pub stdin : (before : FileSystem) (o : Opened I) (after : FileSystem) → may.stdin before o after → after ≡ before
-  pub opens : (before : FileSystem) (path : List ℕ) (r : Result (Opened I) Error) (after : FileSystem) → may.opens before path r after → after ≡ before
-  pub releases : (before : FileSystem) (input : I) (after : FileSystem) → may.releases before input after → after ≡ before
-
-pub folders_over : {I O F : Type 0} (h : Host I O) → FoldersOver h (folders_do {F = F} h)
-folders_over h = record {
-  quiet = are_quiet h;
-  finds = λ before path links found after call. call.0;
-  makes = λ before path r after call. call;
-}
 
 sure_over : {I O F : Type 0} (h : Host I O) → FoldersOver h (sure (folders_do {F = F} h))
 sure_over h = record {
   quiet = sure_quiet h;
   finds = λ before path links found after call. call.0.0;
-  makes = λ before path r after call. call;
+  makes = λ before path mode r after call. call;
 }
 
 working_over : {I O F : Type 0} (h : Host I O) → FoldersOver h (working_folders h (sure (folders_do {F = F} h)))
 working_over {I} {O} {F} h = record {
   quiet = calls_quiet F h;
   finds = λ before path links found after call. call.0.0;
-  makes = λ before path r after call. call.0;
+  makes = λ before path mode r after call. call.0;
 }
 
-pub inputs_over : {I O : Type 0} (h : Host I O) → InputsOver (may_do {I = I} h)
-inputs_over h = record {
-  stdin = λ before o after call. call;
-  opens = λ before path r after call. call.0;
-  releases = λ before input after call. call;
-}
-
-working_inputs : {I O : Type 0} (h : Host I O) (r : Reader I) (w : Writer O) → InputsOver (working_may h r w (may_do h))
+working_inputs : {I O : Type 0} (h : Host I O) (r : Reader I) (w : Writer O) → InputsOver h (working_may h r w (may_do h))
 working_inputs h r w = record {
   stdin = λ before o after call. call;
   opens = λ before path result after call. call.0.0;
   releases = λ before input after call. call;
+  seizes = λ before path result after call. call;
+  removes = λ before path result after call. call;
 }
 
 -- ---- what is opened
@@ -98,7 +80,7 @@ pub opens_tree : {S O F : Type 0} (d : FoldersDo S O F) → Quiet d → (path : 
 opens_tree d quiet path before opened after (spec.followed own is o) = opens_folder d quiet own before opened after o
 opens_tree d quiet path before opened after (spec.too_long is o) = opens_folder d quiet path before opened after o
 
-opens_input : {I O : Type 0} (may : MayDo FileSystem I O) → InputsOver may → (path : List ℕ) (before : FileSystem) (r : Result (Opened I) Error) (after : FileSystem) → OpensInput may path before r after → after ≡ before
+opens_input : {I O : Type 0} {h : Host I O} (may : MayDo FileSystem I O) → InputsOver h may → (path : List ℕ) (before : FileSystem) (r : Result (Opened I) Error) (after : FileSystem) → OpensInput may path before r after → after ≡ before
 opens_input may is_over path before r after (devices.stream d is call i) = is_over.stdin before d after call
 opens_input may is_over path before r after (devices.no_text e is t k i same) = same
 opens_input may is_over path before r after (devices.refused e is t call i) = is_over.opens before path (Err e) after call
@@ -113,11 +95,16 @@ then_name h output place a b c (inl e) (inr m) = inr (record { of_output = m.of_
 then_name h output place a b c (inr m) (inl f) = inr (record { of_output = m.of_output; nothing = m.nothing; made = m.made; is = f ∙ m.is; kind = m.kind })
 then_name h output place a b c (inr m) (inr n) = inr (record { of_output = m.of_output; nothing = m.nothing; made = n.made; is = n.is; kind = n.kind })
 
--- no more was done than to make the folder of the outputs
+-- no more was done than to make that folder: at each other place is what was there, and each file has its bytes
+record OnlyMade {I O : Type 0} (h : Host I O) (output : List ℕ) (start now : Tree) : Type 0 where
+  names : (place : List ℕ) → (now.at place ≡ start.at place) ⊎ IsMade h output place start now
+  bytes : SameBytes start now
+
+-- and else the file system is as it was
 record Only {I O : Type 0} (h : Host I O) (output : List ℕ) (before after : FileSystem) : Type 0 where
   written : after.written ≡ before.written
   unremoved : after.unremoved ≡ before.unremoved
-  only : OnlyOutput h output before.now after.now
+  only : OnlyMade h output before.now after.now
 
 still_only : {I O : Type 0} (h : Host I O) (output : List ℕ) (before after : FileSystem) → after ≡ before → Only h output before after
 still_only h output before after same = record {
@@ -138,37 +125,32 @@ then_only h output a b c first second = record {
 
 -- ---- the beginning
 
-made_name : {I O : Type 0} (h : Host I O) (output place : List ℕ) (before after : FileSystem) → files.MakesFolder h output before after → (place ≡ place_of h output) ⊎ (after.now.at place ≡ before.now.at place)
+made_name : {I O : Type 0} {mode : ℕ} (h : Host I O) (output place : List ℕ) (before after : FileSystem) → files.MakesFolder h output mode before after → (place ≡ place_of h output) ⊎ (after.now.at place ≡ before.now.at place)
     → (after.now.at place ≡ before.now.at place) ⊎ IsMade h output place before.now after.now
 made_name h output place before after makes (inl e) = inr (record { of_output = e; nothing = ap before.now.at e ∙ makes.nothing; made = makes.made; is = ap after.now.at e ∙ makes.puts.there; kind = makes.kind })
 made_name h output place before after makes (inr e) = inl e
 
-made_only : {I O : Type 0} (h : Host I O) (output : List ℕ) (before after : FileSystem) → files.MakesFolder h output before after → Only h output before after
+made_only : {I O : Type 0} {mode : ℕ} (h : Host I O) (output : List ℕ) (before after : FileSystem) → files.MakesFolder h output mode before after → Only h output before after
 made_only h output before after call = record {
   written = call.notes.written_is;
   unremoved = call.notes.unremoved_is;
   only = record { names = λ place. made_name h output place before after call (call.puts.elsewhere place); bytes = call.bytes };
 }
 
--- a path is text, and nothing is there
-record IsFree {I O : Type 0} (h : Host I O) (part : List ℕ) (now : Tree) : Type 0 where
-  text : IsUtf8 part
-  nothing : at_path h now part ≡ None
-
-is_free : {I O : Type 0} (h : Host I O) (part : List ℕ) (before after : FileSystem) → after ≡ before → None ≡ at_path h before.now part → at_path h after.now part ≡ None
-is_free h part before after same is = ap (λ (s : FileSystem). at_path h s.now part) same ∙ sym is
-
 module _ {I O F : Type 0} (h : Host I O) (d : FoldersDo FileSystem O F) (is_over : FoldersOver h d) where
-  folder_only : (output : List ℕ) (before : FileSystem) (r : Result (Unit {0}) Refusal) (after : FileSystem) → MakesFolder d output before r after → Only h output before after
-  folder_only output before r after (beginning.no_text t is same) = still_only h output before after same
-  folder_only output before r after (beginning.made t call is) = made_only h output before after (is_over.makes before output (Ok _) after call)
-  folder_only output before r after (beginning.was_there e t call k is) = still_only h output before after (is_over.makes before output (Err e) after call)
-  folder_only output before r after (beginning.not_made e t call k is) = still_only h output before after (is_over.makes before output (Err e) after call)
+  folder_only : (output : List ℕ) (mode : ℕ) (before : FileSystem) (r : Result (Unit {0}) Refusal) (after : FileSystem) → MakesFolder d output mode before r after → Only h output before after
+  folder_only output mode before r after (beginning.no_text t is same) = still_only h output before after same
+  folder_only output mode before r after (beginning.made t call is) = made_only h output before after (is_over.makes before output mode (Ok _) after call)
+  folder_only output mode before r after (beginning.was_there e t call k is) = still_only h output before after (is_over.makes before output mode (Err e) after call)
+  folder_only output mode before r after (beginning.not_made e t call k is) = still_only h output before after (is_over.makes before output mode (Err e) after call)
 
-  output_only : (output : List ℕ) (before : FileSystem) (r : Result FolderNumber Refusal) (after : FileSystem) → MakesOutput d output before r after → Only h output before after
-  output_only output before r after (beginning.not_made refusal m is) = folder_only output before (Err refusal) after m
-  output_only output before r after (beginning.made mid m n) =
-      then_only h output before mid after (folder_only output before (Ok _) mid m) (still_only h output mid after (numbers_folder d is_over.quiet output mid r after n))
+  output_only : {modes : Modes} (output : List ℕ) (before : FileSystem) (r : Result FolderNumber Refusal) (after : FileSystem) → MakesOutput d modes output before r after → Only h output before after
+  output_only output before r after (beginning.no_mode n f is) = still_only h output before after (finds_mode d is_over.quiet before (Err n) after f)
+  output_only output before r after (beginning.not_made mode refusal seen f m is) =
+      then_only h output before seen after (still_only h output before seen (finds_mode d is_over.quiet before (Ok mode) seen f)) (folder_only output mode seen (Err refusal) after m)
+  output_only output before r after (beginning.made mode seen mid f m n) =
+      then_only h output before mid after
+      (then_only h output before seen mid (still_only h output before seen (finds_mode d is_over.quiet before (Ok mode) seen f)) (folder_only output mode seen (Ok _) mid m)) (still_only h output mid after (numbers_folder d is_over.quiet output mid r after n))
 
   apart_only : (input : List ℕ) (is_list : Bool) (output : List ℕ) (before : FileSystem) (r : Result FolderNumber Refusal) (after : FileSystem) → MakesApart d input is_list output before r after
       → Only h output before after
@@ -190,81 +172,160 @@ module _ {I O F : Type 0} (h : Host I O) (d : FoldersDo FileSystem O F) (is_over
   has_only input is_list output before r after (beginning.not_there looked l m) =
       then_only h output before looked after (still_only h output before looked (is_there d is_over.quiet output before (Ok false) looked l)) (apart_only input is_list output looked r after m)
 
-  begins_only : (input : List ℕ) (is_list : Bool) (output name : List ℕ) (continues : Bool) (before : FileSystem) (r : Result Begun Refusal) (after : FileSystem)
-      → Begins d input is_list output name continues before r after → Only h output before after
-  begins_only input is_list output name continues before r after (beginning.no_output refusal has is) = has_only input is_list output before (Err refusal) after has
-  begins_only input is_list output name continues before r after (beginning.no_part number refusal has p is) = has_only input is_list output before (Ok number) after has
-  begins_only input is_list output name continues before r after (beginning.has_part number path refusal mid has p c is) =
-      then_only h output before mid after (has_only input is_list output before (Ok number) mid has) (still_only h output mid after (checks_part d is_over.quiet path.items mid (Err refusal) after c))
-  begins_only input is_list output name continues before r after (beginning.in_use number path refusal mid checked has p c u is) =
-      then_only h output before mid after (has_only input is_list output before (Ok number) mid has)
-      (still_only h output mid after (checks_use d is_over.quiet output continues checked (Err refusal) after u ∙ checks_part d is_over.quiet path.items mid (Ok _) checked c))
-  begins_only input is_list output name continues before r after (beginning.begun number path mid checked has p c u is) =
-      then_only h output before mid after (has_only input is_list output before (Ok number) mid has)
-      (still_only h output mid after (checks_use d is_over.quiet output continues checked (Ok _) after u ∙ checks_part d is_over.quiet path.items mid (Ok _) checked c))
+-- ---- it was removed, or was not there
+
+cleared_name : {I O : Type 0} (h : Host I O) (output part place : List ℕ) (start mid after : Tree) (was : Found) → mid.at (place_of h part) ≡ Some was → was.kind ≡ File → after.at (place_of h part) ≡ None → (mid.at place ≡ start.at place) ⊎ IsMade h output place start mid
+    → (place ≡ place_of h part) ⊎ (after.at place ≡ mid.at place) → (after.at place ≡ start.at place) ⊎ (IsMade h output place start after ⊎ IsCleared h part place start after)
+cleared_name h output part place start mid after was there kind none (inl e) (inl at) = inr (inr (record { of_part = at; was = was; was_there = sym e ∙ (ap mid.at at ∙ there); kind = kind; gone = ap after.at at ∙ none }))
+cleared_name h output part place start mid after was there kind none (inr m) (inl at) =
+    absurd (is_file was kind (subst (λ (f : Found). f.kind ≡ Folder) (one_value (mid.at place) m.made was m.is (ap mid.at at ∙ there)) m.kind))
+cleared_name h output part place start mid after was there kind none (inl e) (inr same) = inl (same ∙ e)
+cleared_name h output part place start mid after was there kind none (inr m) (inr same) = inr (inl (record { of_output = m.of_output; nothing = m.nothing; made = m.made; is = same ∙ m.is; kind = m.kind }))
+
+made_or : {A B C : Type 0} → A ⊎ B → A ⊎ (B ⊎ C)
+made_or (inl a) = inl a
+made_or (inr b) = inr (inl b)
+
+same_now : {I O : Type 0} (h : Host I O) (output part : List ℕ) (start mid after : Tree) → after ≡ mid → OnlyMade h output start mid → OnlyOutput h output part start after
+same_now h output part start mid after same only = subst (OnlyOutput h output part start) (sym same) (record { names = λ place. made_or (only.names place); bytes = only.bytes })
+
+then_cleared : {I O : Type 0} (h : Host I O) (output part : List ℕ) (start : Tree) (mid after : FileSystem) → OnlyMade h output start mid.now → Clearing h part mid after → OnlyOutput h output part start after.now
+then_cleared h output part start mid after only (clearing.still same) = same_now h output part start mid.now after.now (ap (λ (s : FileSystem). s.now) same) only
+then_cleared h output part start mid after only (clearing.failed is) = same_now h output part start mid.now after.now (ap (λ (s : FileSystem). s.now) is) only
+then_cleared h output part start mid after only (clearing.gone was there kind removes) = record {
+  names = λ place. cleared_name h output part place start mid.now after.now was there kind removes.puts.there (only.names place) (removes.puts.elsewhere place);
+  bytes = λ n. removes.bytes n ∙ only.bytes n;
+}
+
+left_same : {I O : Type 0} (h : Host I O) (output part : List ℕ) (start : Tree) (before now : FileSystem) → now ≡ before → OnlyOutput h output part start before.now → OnlyOutput h output part start now.now
+left_same h output part start before now same only = subst (λ (s : FileSystem). OnlyOutput h output part start s.now) (sym same) only
+
+-- the folder of the outputs is still there
+number_by : {I O : Type 0} (h : Host I O) (output part : List ℕ) (number : FolderNumber) (before after : FileSystem) → FolderThere h output before.now → Clearing h part before after → IsNumberAt h before.now output number → IsNumberAt h after.now output number
+number_by h output part number before after there (clearing.still same) at = subst (λ (s : FileSystem). IsNumberAt h s.now output number) (sym same) at
+number_by h output part number before after there (clearing.failed is) at = subst (λ (t : Tree). IsNumberAt h t output number) (sym (ap (λ (s : FileSystem). s.now) is)) at
+number_by h output part number before after there (clearing.gone was file kind removes) at = record {
+  found = at.found;
+  is = not_cleared before.now (h.leads Followed output) (place_of h part) there.found was there.is there.kind file kind (removes.puts.elsewhere (h.leads Followed output)) ∙ at.is;
+  device_is = at.device_is;
+  number_is = at.number_is;
+}
+  where
+    not_cleared : {A : Type 0} (t : Tree) (place other : List ℕ) (one was : Found) → t.at place ≡ Some one → one.kind ≡ Folder → t.at other ≡ Some was → was.kind ≡ File → (place ≡ other) ⊎ A → A
+    not_cleared t place other one was is folders at kind (inl e) = absurd (is_file was kind (subst (λ (f : Found). f.kind ≡ Folder) (one_value (t.at place) one was is (ap t.at e ∙ at)) folders))
+    not_cleared t place other one was is folders at kind (inr same) = same
+
+module _ {I O F E : Type 0} (h : Host I O) (may : MayDo FileSystem I O) (inputs : InputsOver h may) (d : FoldersDo FileSystem O F) (is_over : FoldersOver h d) (e : Writer E) (output part name : List ℕ) (named : below output name ≡ part) where
+  way_of : (path : ArrayVec ℕ) → IsPart output name (Ok path) → (spared : Spared) (from : E) (before : FileSystem) (r : Result (Unit {0}) Refusal) (to : E) (after : FileSystem) → ClearsWay may d e path.items name spared from before r to after → Clearing h part before after
+  way_of path p spared from before r to after clears =
+      subst (λ (x : List ℕ). Clearing h x before after) (is_part output name path p ∙ named) (way_clearing h may inputs d is_over e path.items name spared from before r to after clears)
+
+  clear_of : (path : ArrayVec ℕ) → IsPart output name (Ok path) → (spared : Spared) (from : E) (before : FileSystem) (to : E) (after : FileSystem) → ClearsWay may d e path.items name spared from before (Ok _) to after → IsClear h part before after
+  clear_of path p spared from before to after clears =
+      subst (λ (x : List ℕ). IsClear h x before after) (is_part output name path p ∙ named) (way_clear h may inputs d is_over e path.items name spared from before to after clears)
+
+  begins_only : (input : List ℕ) (is_list : Bool) (continues : Bool) (spared : Spared) (from : E) (before : FileSystem) (r : Result Begun Refusal) (to : E) (after : FileSystem)
+      → Begins may d e input is_list output name continues spared from before r to after → OnlyOutput h output part before.now after.now
+  begins_only input is_list continues spared from before r to after (beginning.no_output refusal has is silent) = same_now h output part before.now after.now after.now refl (has_only h d is_over input is_list output before (Err refusal) after has).only
+  begins_only input is_list continues spared from before r to after (beginning.no_part number refusal has p is silent) = same_now h output part before.now after.now after.now refl (has_only h d is_over input is_list output before (Ok number) after has).only
+  begins_only input is_list continues spared from before r to after (beginning.has_part number path refusal mid has p c is) =
+      then_cleared h output part before.now mid after (has_only h d is_over input is_list output before (Ok number) mid has).only (way_of path p spared from mid (Err refusal) to after c)
+  begins_only input is_list continues spared from before r to after (beginning.in_use number path refusal mid checked has p c u is) =
+      left_same h output part before.now checked after (checks_use d is_over.quiet output continues checked (Err refusal) after u)
+      (then_cleared h output part before.now mid checked (has_only h d is_over input is_list output before (Ok number) mid has).only (way_of path p spared from mid (Ok _) to checked c))
+  begins_only input is_list continues spared from before r to after (beginning.begun number path mid checked has p c u is) =
+      left_same h output part before.now checked after (checks_use d is_over.quiet output continues checked (Ok _) after u)
+      (then_cleared h output part before.now mid checked (has_only h d is_over input is_list output before (Ok number) mid has).only (way_of path p spared from mid (Ok _) to checked c))
 
   -- ---- nothing is at the part
 
-  nothing_there : (part : List ℕ) (before after : FileSystem) → ChecksPart d part before (Ok _) after → IsFree h part after.now
-  nothing_there part before after (beginning.no_text t is same) = absurd (cc)
-  nothing_there part before after (beginning.nothing t call is) = record { text = t; nothing = is_free h part before after (is_over.quiet.finds before part Kept (Ok None) after call) (is_over.finds before part Kept None after call) }
-  nothing_there part before after (beginning.is_there found t call is) = absurd (cc)
-  nothing_there part before after (beginning.not_seen e t call is) = absurd (cc)
+  clear_then : (before mid checked after : FileSystem) → Only h output before mid → after ≡ checked → IsClear h part mid checked → IsClear h part before after
+  clear_then before mid checked after only same clear = record {
+    text = clear.text;
+    nothing = ap (λ (s : FileSystem). at_path h s.now part) same ∙ clear.nothing;
+    written = ap (λ (s : FileSystem). s.written) same ∙ (clear.written ∙ only.written);
+    unremoved = ap (λ (s : FileSystem). s.unremoved) same ∙ (clear.unremoved ∙ only.unremoved);
+  }
 
-  begun_free : (input : List ℕ) (is_list : Bool) (output part : List ℕ) (continues : Bool) (before : FileSystem) (begun : Begun) (after : FileSystem) → Begins d input is_list output part continues before (Ok begun) after
-      → IsFree h begun.part.items after.now
-  begun_free input is_list output part continues before begun after (beginning.no_output refusal has is) = absurd (cc)
-  begun_free input is_list output part continues before begun after (beginning.no_part number refusal has p is) = absurd (cc)
-  begun_free input is_list output part continues before begun after (beginning.has_part number path refusal mid has p c is) = absurd (cc)
-  begun_free input is_list output part continues before begun after (beginning.in_use number path refusal mid checked has p c u is) = absurd (cc)
-  begun_free input is_list output part continues before begun after (beginning.begun number path mid checked has p c u is) =
-      subst (λ (b : Begun). IsFree h b.part.items after.now) (same_ok (Ok begun) begun (record { number = number; part = path }) refl is)
-      (subst (λ (s : FileSystem). IsFree h path.items s.now) (sym (checks_use d is_over.quiet output continues checked (Ok _) after u)) (nothing_there path.items mid checked c))
+  begun_clear : (input : List ℕ) (is_list : Bool) (continues : Bool) (spared : Spared) (from : E) (before : FileSystem) (begun : Begun) (to : E) (after : FileSystem) → Begins may d e input is_list output name continues spared from before (Ok begun) to after
+      → IsClear h part before after
+  begun_clear input is_list continues spared from before begun to after (beginning.no_output refusal has is silent) = absurd (cc)
+  begun_clear input is_list continues spared from before begun to after (beginning.no_part number refusal has p is silent) = absurd (cc)
+  begun_clear input is_list continues spared from before begun to after (beginning.has_part number path refusal mid has p c is) = absurd (cc)
+  begun_clear input is_list continues spared from before begun to after (beginning.in_use number path refusal mid checked has p c u is) = absurd (cc)
+  begun_clear input is_list continues spared from before begun to after (beginning.begun number path mid checked has p c u is) =
+      clear_then before mid checked after (has_only h d is_over input is_list output before (Ok number) mid has) (checks_use d is_over.quiet output continues checked (Ok _) after u) (clear_of path p spared from mid to checked c)
 
-  pub ready : (run : TreeRun) (start : Tree) (input : List ℕ) (is_list : Bool) (begun : Begun) (mid : FileSystem) → Begins d input is_list run.output.now (part_of run) run.options.continues (begins start) (Ok begun) mid
-      → Ready h run start begun mid
-  ready run start input is_list begun mid b =
-      let only : Only h run.output.now (begins start) mid = begins_only input is_list run.output.now (part_of run) run.options.continues (begins start) (Ok begun) mid b in
-      let part : begun.part.items ≡ part_path run = begun_part d input is_list run.output.now (part_of run) run.options.continues (begins start) begun mid b in
-      let free : IsFree h (part_path run) mid.now =
-      subst (λ (p : List ℕ). IsFree h p mid.now) part (begun_free input is_list run.output.now (part_of run) run.options.continues (begins start) begun mid b) in
+  -- ---- the number of the folder of the outputs
+
+  looks_so : (before : FileSystem) (path : List ℕ) (found : Option Found) (after : FileSystem) → d.finds before path Followed (Ok found) after → found ≡ before.now.at (h.leads Followed path)
+  looks_so before path found after call = is_over.finds before path Followed found after call
+
+  begun_at : (input : List ℕ) (is_list : Bool) (continues : Bool) (spared : Spared) (from : E) (before : FileSystem) (begun : Begun) (to : E) (after : FileSystem) → Begins may d e input is_list output name continues spared from before (Ok begun) to after
+      → IsNumberAt h after.now output begun.number
+  begun_at input is_list continues spared from before begun to after (beginning.no_output refusal has is silent) = absurd (cc)
+  begun_at input is_list continues spared from before begun to after (beginning.no_part number refusal has p is silent) = absurd (cc)
+  begun_at input is_list continues spared from before begun to after (beginning.has_part number path refusal mid has p c is) = absurd (cc)
+  begun_at input is_list continues spared from before begun to after (beginning.in_use number path refusal mid checked has p c u is) = absurd (cc)
+  begun_at input is_list continues spared from before begun to after (beginning.begun number path mid checked has p c u is) =
+      subst (λ (b : Begun). IsNumberAt h after.now output b.number) (same_ok (Ok begun) begun (record { number = number; part = path }) refl is)
+      (subst (λ (s : FileSystem). IsNumberAt h s.now output number) (sym (checks_use d is_over.quiet output continues checked (Ok _) after u))
+      (number_by h output part number mid checked (folder_there h d is_over.quiet looks_so input is_list output before number mid has) (way_of path p spared from mid (Ok _) to checked c)
+      (has_at h d is_over.quiet looks_so input is_list output before number mid has)))
+
+module _ {I O F E : Type 0} (h : Host I O) (may : MayDo FileSystem I O) (inputs : InputsOver h may) (d : FoldersDo FileSystem O F) (is_over : FoldersOver h d) (e : Writer E) where
+  pub ready : (run : TreeRun) (start : Tree) (input : List ℕ) (is_list : Bool) (spared : Spared) (from : E) (begun : Begun) (told : E) (mid : FileSystem)
+      → Begins may d e input is_list run.output.now (part_of run) run.options.continues spared from (begins start) (Ok begun) told mid → Ready h run start begun mid
+  ready run start input is_list spared from begun told mid b =
+      let clear : IsClear h (part_path run) (begins start) mid = begun_clear h may inputs d is_over e run.output.now (part_path run) (part_of run) refl input is_list run.options.continues spared from (begins start) begun told mid b in
       record {
-        written = only.written;
-        unremoved = only.unremoved;
-        part_is = part;
-        text = free.text;
-        no_part = free.nothing;
-        only = only.only;
-        number = begun_at h d is_over.quiet (λ before path found after call. is_over.finds before path Followed found after call) input is_list run.output.now (part_of run) run.options.continues (begins start) begun mid b;
+        written = clear.written;
+        unremoved = clear.unremoved;
+        part_is = begun_part may d e input is_list run.output.now (part_of run) run.options.continues spared from (begins start) begun told mid b;
+        text = clear.text;
+        no_part = clear.nothing;
+        only = begins_only h may inputs d is_over e run.output.now (part_path run) (part_of run) refl input is_list run.options.continues spared from (begins start) (Ok begun) told mid b;
+        number = begun_at h may inputs d is_over e run.output.now (part_path run) (part_of run) refl input is_list run.options.continues spared from (begins start) begun told mid b;
       }
 
 -- ---- the run
 
-module _ {I O F W E : Type 0} (h : Host I O) (w : World FileSystem I O F E) (folders_are : FoldersOver h w.folders) (inputs_are : InputsOver w.may) (rows : Writer W) (run : TreeRun) (source : Source) (start : Tree) (manifest : W) (from : E) (status : ℕ) (left : W) (to : E) (after : FileSystem) where
+module _ {I O F W E : Type 0} (h : Host I O) (w : World FileSystem I O F E) (folders_are : FoldersOver h w.folders) (inputs_are : InputsOver h w.may) (rows : Writer W) (run : TreeRun) (source : Source) (start : Tree) (manifest : W) (from : E) (status : ℕ) (left : W) (to : E) (after : FileSystem) where
   abbrev Comes : Type 0
   Comes = ComesTo h w rows run source start manifest from status left to after
 
-  left_so : (before now : FileSystem) → now ≡ before → OnlyOutput h run.output.now start before.now → OnlyOutput h run.output.now start now.now
-  left_so before now same only = subst (λ (s : FileSystem). OnlyOutput h run.output.now start s.now) (sym same) only
+  abbrev Left : FileSystem → Type 0
+  Left s = OnlyOutput h run.output.now (part_path run) start s.now
 
-  nothing_done : after ≡ begins start → OnlyOutput h run.output.now start after.now
-  nothing_done same = (still_only h run.output.now (begins start) after same).only
+  left_so : (before now : FileSystem) → now ≡ before → Left before → Left now
+  left_so before now same only = left_same h run.output.now (part_path run) start before now same only
+
+  nothing_done : after ≡ begins start → Left after
+  nothing_done same = same_now h run.output.now (part_path run) start after.now after.now refl (still_only h run.output.now (begins start) after same).only
+
+  -- what was told before the first name
+  abbrev Tells : E → Type 0
+  Tells told = TellsLeft w.errors (part_of run) from told
 
   -- ---- a folder
 
-  folder_visited : (path : List ℕ) (opened : F) (begun : Begun) (mid : FileSystem) → source ≡ folder path → OpensTree w.folders path (begins start) (Some opened) (begins start) → Ready h run start begun mid
-      → VisitsFolder w rows run path begun opened manifest from mid status left to after → Comes
-  folder_visited path opened begun mid is opens ok (spec.no_header failure puts close ends) = course.no_header failure puts ends (left_so mid after (folders_are.quiet.closes mid opened after close) ok.only)
-  folder_visited path opened begun mid is opens ok (spec.visited headed puts v) = course.in_folder path opened begun headed mid is opens puts ok v
+  folder_visited : (path : List ℕ) (opened : F) (begun : Begun) (told : E) (mid : FileSystem) → source ≡ folder path → OpensTree w.folders path (begins start) (Some opened) (begins start) → Tells told → Ready h run start begun mid
+      → VisitsFolder w rows run path begun opened manifest told mid status left to after → Comes
+  folder_visited path opened begun told mid is opens tells ok (spec.no_header failure puts close ends) = course.no_header failure told tells puts ends (left_so mid after (folders_are.quiet.closes mid opened after close) ok.only)
+  folder_visited path opened begun told mid is opens tells ok (spec.visited headed puts v) = course.in_folder path opened begun headed told mid is tells opens puts ok v
 
   folder_opened : (path : List ℕ) (opened : F) → source ≡ folder path → OpensTree w.folders path (begins start) (Some opened) (begins start) → DoesOpened w rows run path opened manifest from (begins start) status left to after → Comes
-  folder_opened path opened is opens (spec.not_begun refusal tried b close refuses same) =
-      course.refused refusal refuses same (left_so tried after (folders_are.quiet.closes tried opened after close) (begins_only h w.folders folders_are path false run.output.now (part_of run) run.options.continues (begins start) (Err refusal) tried b).only)
-  folder_opened path opened is opens (spec.was_begun begun mid b v) = folder_visited path opened begun mid is opens (ready h w.folders folders_are run start path false begun mid b) v
+  folder_opened path opened is opens (spec.not_begun refusal told tried b close refuses same) =
+      course.refused refusal told (begins_told w.may w.folders w.errors path false run.output.now (part_of run) run.options.continues (spared_of run) from (begins start) (Err refusal) told tried b) refuses same
+      (left_so tried after (folders_are.quiet.closes tried opened after close)
+      (begins_only h w.may inputs_are w.folders folders_are w.errors run.output.now (part_path run) (part_of run) refl path false run.options.continues (spared_of run) from (begins start) (Err refusal) told tried b))
+  folder_opened path opened is opens (spec.was_begun begun told mid b v) =
+      folder_visited path opened begun told mid is opens (begins_told w.may w.folders w.errors path false run.output.now (part_of run) run.options.continues (spared_of run) from (begins start) (Ok begun) told mid b)
+      (ready h w.may inputs_are w.folders folders_are w.errors run start path false (spared_of run) from begun told mid b) v
 
   of_folder : (path : List ℕ) → source ≡ folder path → DoesFolder w rows run path manifest from (begins start) status left to after → Comes
-  of_folder path is (spec.too_long long refuses same still) = course.refused _ refuses same (nothing_done still)
-  of_folder path is (spec.not_opened o refuses same) = course.refused _ refuses same (nothing_done (opens_tree w.folders folders_are.quiet path (begins start) None after o))
+  of_folder path is (spec.too_long long refuses same still) = course.refused _ from (nothing_told refl) refuses same (nothing_done still)
+  of_folder path is (spec.not_opened o refuses same) = course.refused _ from (nothing_told refl) refuses same (nothing_done (opens_tree w.folders folders_are.quiet path (begins start) None after o))
   of_folder path is (spec.was_opened opened mid o does) =
       let still : mid ≡ begins start = opens_tree w.folders folders_are.quiet path (begins start) (Some opened) mid o in
       folder_opened path opened is (subst (OpensTree w.folders path (begins start) (Some opened)) still o)
@@ -272,24 +333,28 @@ module _ {I O F W E : Type 0} (h : Host I O) (w : World FileSystem I O F E) (fol
 
   -- ---- a list
 
-  list_visited : (path : List ℕ) (opened : Opened I) (begun : Begun) (mid done : FileSystem) (read : I) → source ≡ list path → OpensInput w.may path (begins start) (Ok opened) (begins start) → Ready h run start begun mid → after ≡ done
-      → VisitsList w rows run path begun opened.device manifest from mid status left to done read → Comes
-  list_visited path opened begun mid done read is opens ok back (spec.no_header failure puts ends same unread) = course.no_header failure puts ends (left_so mid after (back ∙ same) ok.only)
-  list_visited path opened begun mid done read is opens ok back (spec.visited headed puts v) =
-      course.in_list path opened begun headed mid read is opens puts ok (subst (λ (s : FileSystem). spec.VisitsListed w rows run path begun opened.device headed from mid status left to s read) (sym back) v)
+  list_visited : (path : List ℕ) (opened : Opened I) (begun : Begun) (told : E) (mid done : FileSystem) (read : I) → source ≡ list path → OpensInput w.may path (begins start) (Ok opened) (begins start) → Tells told → Ready h run start begun mid → after ≡ done
+      → VisitsList w rows run path begun opened.device manifest told mid status left to done read → Comes
+  list_visited path opened begun told mid done read is opens tells ok back (spec.no_header failure puts ends same unread) = course.no_header failure told tells puts ends (left_so mid after (back ∙ same) ok.only)
+  list_visited path opened begun told mid done read is opens tells ok back (spec.visited headed puts v) =
+      course.in_list path opened begun headed told mid read is tells opens puts ok (subst (λ (s : FileSystem). spec.VisitsListed w rows run path begun opened.device headed told mid status left to s read) (sym back) v)
 
   list_opened : (path : List ℕ) (opened : Opened I) (done : FileSystem) (read : I) → source ≡ list path → OpensInput w.may path (begins start) (Ok opened) (begins start) → after ≡ done
-      → DoesNames w rows run path opened.device manifest from (begins start) status left to done read → Comes
-  list_opened path opened done read is opens back (spec.not_begun refusal b refuses same unread) =
-      course.refused refusal refuses same (left_so done after back (begins_only h w.folders folders_are _ true run.output.now (part_of run) run.options.continues (begins start) (Err refusal) done b).only)
-  list_opened path opened done read is opens back (spec.was_begun begun mid b v) = list_visited path opened begun mid done read is opens (ready h w.folders folders_are run start _ true begun mid b) back v
+      → DoesNames w rows run path opened.kind opened.device manifest from (begins start) status left to done read → Comes
+  list_opened path opened done read is opens back (spec.not_begun refusal told b refuses same unread) =
+      course.refused refusal told (begins_told w.may w.folders w.errors _ true run.output.now (part_of run) run.options.continues (spared_with run path opened.kind) from (begins start) (Err refusal) told done b) refuses same
+      (left_so done after back
+      (begins_only h w.may inputs_are w.folders folders_are w.errors run.output.now (part_path run) (part_of run) refl _ true run.options.continues (spared_with run path opened.kind) from (begins start) (Err refusal) told done b))
+  list_opened path opened done read is opens back (spec.was_begun begun told mid b v) =
+      list_visited path opened begun told mid done read is opens (begins_told w.may w.folders w.errors _ true run.output.now (part_of run) run.options.continues (spared_with run path opened.kind) from (begins start) (Ok begun) told mid b)
+      (ready h w.may inputs_are w.folders folders_are w.errors run start _ true (spared_with run path opened.kind) from begun told mid b) back v
 
   of_list : (path : List ℕ) → source ≡ list path → DoesList w rows run path manifest from (begins start) status left to after → Comes
   of_list path is (spec.not_opened error o told s same) = course.no_list path is told s same (opens_input w.may inputs_are path (begins start) (Err error) after o)
   of_list path is (spec.was_opened opened read mid done o does back) =
       let still : mid ≡ begins start = opens_input w.may inputs_are path (begins start) (Ok opened) mid o in
       list_opened path opened done read is (subst (OpensInput w.may path (begins start) (Ok opened)) still o) (inputs_are.releases done read after back)
-      (subst (λ (s : FileSystem). DoesNames w rows run path opened.device manifest from s status left to done read) still does)
+      (subst (λ (s : FileSystem). DoesNames w rows run path opened.kind opened.device manifest from s status left to done read) still does)
 
   comes : DoesTree w rows run source manifest from (begins start) status left to after → Comes
   comes (spec.of_folder path is does) = of_folder path is does
@@ -297,7 +362,7 @@ module _ {I O F W E : Type 0} (h : Host I O) (w : World FileSystem I O F E) (fol
 
 -- ---- the worlds
 
-pub each : {I O F W E : Type 0} (world_of : Host I O → World FileSystem I O F E) → ((h : Host I O) → FoldersOver h (world_of h).folders) → ((h : Host I O) → InputsOver (world_of h).may) → (rows : Writer W) → EachBeginsSo world_of rows
+pub each : {I O F W E : Type 0} (world_of : Host I O → World FileSystem I O F E) → ((h : Host I O) → FoldersOver h (world_of h).folders) → ((h : Host I O) → InputsOver h (world_of h).may) → (rows : Writer W) → EachBeginsSo world_of rows
 each world_of folders_are inputs_are rows h run source start manifest from status left to after does =
     comes h (world_of h) (folders_are h) (inputs_are h) rows run source start manifest from status left to after does
 

@@ -2,8 +2,10 @@
 use Rattle.std.proofs.Common.{◌≡◌, ◌∙◌, refl, sym, ap, subst, ℕ, List, [], ◌∷◌, ◌++◌, Bool, true, false, Option, Some, None, Result, Ok}
 use Rattle.std.specs.Prelude.{◌≢◌}
 use Rattle.std.specs.Io.KnownBytes.{append_known}
+use Rattle.dcm_lemmas.proofs.Options.{none_or_some}
 use Rattle.dcm_devices.specs.Writing.{Writer}
 use Rattle.dcm_files.specs.declared.folders.Found.{Found}
+use Rattle.dcm_tree_laws.proofs.MadeWay.{none_apart}
 use Rattle.dcm_walk.specs.Names.{below}
 use Rattle.dcm_walk.specs.Visits.{Named}
 use Rattle.dcm_walk.specs.declared.visitor.Stopped.{Stopped}
@@ -13,30 +15,28 @@ use Rattle.dcm_trees.specs.declared.file.Done.{Done}
 use Rattle.dcm_trees.specs.declared.progress.Shared.{Shared}
 use Rattle.dcm_trees.specs.declared.progress.Stop.{Stop}
 use Rattle.dcm_trees.specs.declared.progress.Work.{Work}
-use Rattle.dcm_trees.specs.declared.run.TreeRun.{TreeRun}
 use Rattle.dcm_trees.specs.Fate.{is_written, word}
 use Rattle.dcm_trees.specs.File.{DoesName}
 use Rattle.dcm_trees.specs.Manner.{Manner, manner_of}
-use Rattle.dcm_trees.specs.Run.{Shares}
 use Rattle.dcm_trees.specs.Work as spec
 use Rattle.dcm_trees.specs.Work.{Progress, VisitsName, row, output_of, name_in, visits_of}
 use Rattle.dcm_tree_laws.specs.Distinct.{WasNew, name_if, outputs_of, IsElsewhere, AreApart, OutputsAreDistinct, OutputsAreDistinctOfList}
 use Rattle.dcm_tree_laws.specs.FileSystem.{FileSystem, Tree, Host, place_of, at_path, folders_do}
-use Rattle.dcm_tree_laws.specs.Laws.{IsOutput, over, part_path}
+use Rattle.dcm_tree_laws.specs.Laws.{IsOutput, over}
 use Rattle.dcm_tree_laws.specs.OneRow.{RowsOf, no_visit, of_another, and_row}
 use Rattle.dcm_tree_laws.specs.Outputs.{HasOutput}
 use Rattle.dcm_tree_laws.specs.Rows.{Visit, noted}
 use Rattle.dcm_tree_laws.proofs.Near.{IsNear, Stays}
-use Rattle.dcm_tree_laws.proofs.Given.{NewOutput, none_some}
+use Rattle.dcm_tree_laws.proofs.Given.{NewOutput}
 use Rattle.dcm_tree_laws.proofs.Lists.{lines_do}
 use Rattle.dcm_tree_laws.proofs.Noted.{walk_noted, list_noted}
-use Rattle.dcm_tree_laws.proofs.OutputsBy.{Leaves, leaves, Still, then_stays, stays_out, part_of_output}
+use Rattle.dcm_tree_laws.proofs.OutputsBy.{Leaves, leaves, Still, then_stays, stays_out, manner_of_output}
 use Rattle.dcm_tree_laws.proofs.Quiet.{are_quiet, only_quiet, IsClosed, IsSame}
 use Rattle.dcm_tree_laws.proofs.RowsBy.{visit_of, went_out, one_more, no_manifest, no_stop, same_manifest}
 use Rattle.dcm_tree_laws.proofs.Runs.{visit_name}
 use Rattle.dcm_tree_laws.proofs.Steps.{no_step}
 use Rattle.dcm_tree_laws.proofs.Walks.{VisitsDo, walks_do}
-use Rattle.dcm_tree_laws.proofs.Written.{always_gives}
+use Rattle.dcm_tree_laws.proofs.Filling.{always_gives}
 use Rattle.dcm_tree_laws.proofs.WrittenBy.{name_out}
 
 -- ---- the outputs so far
@@ -50,14 +50,10 @@ they_stay : {I O : Type 0} (h : Host I O) (IsWhole : ℕ → List ℕ → Type 0
 they_stay h IsWhole part output t u [] stays there = tt
 they_stay h IsWhole part output t u (name ∷ names) stays there = (stays_out h IsWhole part output (below output name) t u stays there.0, they_stay h IsWhole part output t u names stays there.1)
 
--- where nothing is, none of them is
-other_place : (t : Tree) (place other : List ℕ) (f : Found) → t.at place ≡ None → t.at other ≡ Some f → place ≢ other
-other_place t place other f none is e = none_some (t.at place) f none (ap t.at e ∙ is)
-
 is_elsewhere : {I O : Type 0} (h : Host I O) (IsWhole : ℕ → List ℕ → Type 0) (part output name : List ℕ) (t : Tree) (names : List (List ℕ)) → at_path h t (below output name) ≡ None → AreThere h IsWhole part output t names → IsElsewhere h output name names
 is_elsewhere h IsWhole part output name t [] none there = tt
 is_elsewhere h IsWhole part output name t (other ∷ names) none there =
-    (other_place t (place_of h (below output name)) (place_of h (below output other)) there.0.file none there.0.is, is_elsewhere h IsWhole part output name t names none there.1)
+    (none_apart t (place_of h (below output name)) (place_of h (below output other)) there.0.file none there.0.is, is_elsewhere h IsWhole part output name t names none there.1)
 
 one_more_there : {I O : Type 0} (h : Host I O) (IsWhole : ℕ → List ℕ → Type 0) (part output name : List ℕ) (t u : Tree) (names : List (List ℕ)) (was : Bool) → (was ≡ true → NewOutput h IsWhole part output (below output name) t u) → AreThere h IsWhole part output u names
     → AreThere h IsWhole part output u (name_if was name ++ names)
@@ -81,7 +77,7 @@ pub record HasNew {I O W : Type 0} (h : Host I O) (IsWhole : ℕ → List ℕ �
 -- what was new before a name was done was so at the start
 since_start : {I O : Type 0} (h : Host I O) (part path : List ℕ) (start now : Tree) (was : Option Found) → start.at (place_of h path) ≡ was → Still h part start now → place_of h path ≢ place_of h part → at_path h now path ≡ None → at_path h start path ≡ None
 since_start h part path start now None is still apart none = is
-since_start h part path start now (Some f) is still apart none = absurd (none_some (at_path h now path) f none (still.there (place_of h path) f apart is))
+since_start h part path start now (Some f) is still apart none = absurd (none_or_some (at_path h now path) f none (still.there (place_of h path) f apart is))
 
 new_since : {I O : Type 0} (h : Host I O) (IsWhole : ℕ → List ℕ → Type 0) (part output path : List ℕ) (start now after : Tree) → Still h part start now → NewOutput h IsWhole part output path now after → at_path h start path ≡ None
 new_since h IsWhole part output path start now after still new = since_start h part path start now (start.at (place_of h path)) refl still new.name.out.apart new.name.nothing
@@ -169,9 +165,6 @@ first h IsWhole m headed start from before none is = record {
   still = record { there = λ place f apart at. at; bytes = λ place f apart at. refl };
   rows = λ stop. record { text = []; rows = no_visit refl refl; manifest_is = no_manifest m start.manifest headed is; there = tt; apart = tt };
 }
-
-manner_of_output : (run : TreeRun) (part : List ℕ) (shared : Shared) → Shares run part shared → part ≡ part_path run → IsNear (manner_of shared.manner).output (manner_of shared.manner).part
-manner_of_output run part shared shares is = subst (λ (k : Manner). IsNear k.output k.part) (sym shares.manner) (part_of_output run part is)
 
 pub outputs_are_distinct : {I O F W E : Type 0} (r : Reader I) (w : Writer O) (m : Writer W) (e : Writer E) → OutputsAreDistinct F r w m e
 outputs_are_distinct {I} {O} {F} {W} {E} r w m e h run path begun opened headed from before status left to after none part v stop =

@@ -1,7 +1,9 @@
 -- Runs leave what was there, or a folder, at each place that is not that of an output.
-use Rattle.std.proofs.Common.{◌≡◌, ◌∙◌, refl, sym, ap, subst, inl, inr, ◌⊎◌, ℕ, List, [], ◌∷◌, ◌++◌, Bool, true, false, Option, Some, None, Result, Ok}
+use Rattle.std.proofs.Common.{◌≡◌, ◌∙◌, refl, sym, ap, subst, inl, inr, ◌⊎◌, ℕ, List, [], ◌∷◌, ◌++◌, Bool, true, false, Some, None, Result, Ok}
 use Rattle.std.specs.Prelude.{◌≢◌, nat_le, length}
 use Rattle.arrayvec.specs.ArrayVec.{ArrayVec}
+use Rattle.dcm_lemmas.proofs.Options.{one_value}
+use Rattle.dcm_lemmas.proofs.Truth.{true_false}
 use Rattle.dcm_devices.specs.Writing.{Writer}
 use Rattle.dcm_files.specs.declared.folders.Found.{Found}
 use Rattle.dcm_walk.specs.Names.{below, PATH_LIMIT}
@@ -29,7 +31,7 @@ use Rattle.dcm_tree_laws.specs.Laws.{IsOutput, part_path}
 use Rattle.dcm_tree_laws.specs.Rows.{Visit, noted}
 use Rattle.dcm_tree_laws.specs.Together.{IsNoPart, IsBarred, too_long, no_text, no_way_text, no_folder, IsRunOf, Visited, in_folder, in_list, HasBytes, HasPlainParts, OneRun, Runs, no_run, and_run, LeavesPlace, of_no_file, of_index, elsewhere, barred, HasFolder, NothingElse, LeavesPlaceAs, as_no_file, as_index, as_unnamed, as_elsewhere, NothingElseAs}
 use Rattle.dcm_tree_laws.specs.Single.{TellsAll}
-use Rattle.dcm_tree_laws.proofs.Fates.{Works}
+use Rattle.dcm_tree_laws.proofs.Fates.{Works, works_quiet}
 use Rattle.dcm_tree_laws.proofs.FatesAs.{EndsNamed}
 use Rattle.dcm_tree_laws.proofs.Frees.{KeepsAll, keeps_itself, then_keeps, bytes_kept}
 use Rattle.dcm_tree_laws.proofs.Held.{GivesAll}
@@ -40,14 +42,11 @@ use Rattle.dcm_tree_laws.proofs.RowsBy.{visit_of, no_stop}
 use Rattle.dcm_tree_laws.proofs.Stages.{of_output, over_does, unchanged, index_same, name_keeps, touches}
 use Rattle.dcm_tree_laws.proofs.StagesAs.{no_instance, named_as, touches_as, ends_as}
 use Rattle.dcm_tree_laws.proofs.StillBy.{before_all, last_of_all}
-use Rattle.dcm_tree_laws.proofs.Staged.{works_quiet, stop_before, Of, quietly, Known, known, output_is, task_is}
+use Rattle.dcm_tree_laws.proofs.Staged.{stop_before, Of, quietly, Known, known, output_is, task_is}
 use Rattle.dcm_tree_laws.proofs.Touched.{Touched, as_it_was, at_part, at_output, at_folder}
 use Rattle.dcm_tree_laws.proofs.TouchedAs.{TouchesAs, part_alone, at_instance}
 use Rattle.dcm_tree_laws.proofs.Walks.{VisitsDo, walks_do}
 use Rattle.dcm_tree_laws.proofs.Working.{whole_gives}
-
-true_false : (b : Bool) → b ≡ true → b ≡ false → ⊥
-true_false b e f = absurd (cc)
 
 -- ---- a place
 
@@ -74,16 +73,13 @@ same_else before after place same = inl (ap (λ (s : FileSystem). s.now.at place
 
 -- ---- an output that cannot be there
 
-same_found : (o : Option Found) (f g : Found) → o ≡ Some f → o ≡ Some g → f ≡ g
-same_found o f g a b = cc
-
 barred_not : {I O : Type 0} (h : Host I O) (output relative : List ℕ) (first now : Tree) → KeepsAll h output first now → IsBarred h output relative first → IsThere h output relative now → ⊥
 barred_not h output relative first now keeps (too_long not) there = true_false (nat_le (length (below output relative)) PATH_LIMIT) there.fits not
 barred_not h output relative first now keeps (no_text not) there = not there.file.text
 barred_not h output relative first now keeps (no_way_text folder behind cut not) there = not (there.way folder behind cut).text
 barred_not h output relative first now keeps (no_folder folder behind f cut apart is other) there =
     let way = there.way folder behind cut in
-    other (ap (λ (x : Found). x.kind) (same_found (at_path h now (below output folder)) f way.found (keeps.there (place_of h (below output folder)) f apart is) way.is) ∙ way.kind_is)
+    other (ap (λ (x : Found). x.kind) (one_value (at_path h now (below output folder)) f way.found (keeps.there (place_of h (below output folder)) f apart is) way.is) ∙ way.kind_is)
 
 -- ---- one name
 

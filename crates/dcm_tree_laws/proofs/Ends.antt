@@ -2,27 +2,28 @@
 use Rattle.std.proofs.Common.{◌≡◌, ◌∙◌, sym, ap, subst, ℕ, ℤ, List, drop, Option, Some, None, Result}
 use Rattle.dcm_base.specs.declared.dictionary.Dictionary.{Dictionary}
 use Rattle.dcm_base.specs.declared.dictionary.Dictionary.TheVariants.{Standard}
-use Rattle.dcm_base.specs.declared.fault.Fault.{Fault}
 use Rattle.dcm_base.specs.declared.fault.Stop.{Stop as FaultAt}
 use Rattle.dcm_base.specs.declared.mode.Mode.{Mode}
 use Rattle.dcm_base.specs.declared.syntax.Coding.{Coding}
 use Rattle.dcm_base.specs.declared.syntax.Syntax.{Syntax}
-use Rattle.dcm_base.specs.File.MetaReads.{Meta, begins, refused}
+use Rattle.dcm_base.specs.File.MetaReads.{begins, refused}
 use Rattle.dcm_base.specs.Reading.Bars.{no_bar}
 use Rattle.dcm_base.specs.Reading.Reads.{Reads}
 use Rattle.dcm_base.specs.Reading.Stop.{Stop}
 use Rattle.dcm_base.specs.Tables.Syntax.{read_by}
 use Rattle.dcm_base.specs.Tree.Front.{Front}
 use Rattle.dcm_base.proofs.DataSets.OneAnswer.{reads_once}
+use Rattle.dcm_cli.proofs.Runs.OneAnswer.{alone_once}
 use Rattle.dcm_head.proofs.MetaGroups.OneMeta.{one_meta}
 use Rattle.dcm_instance.specs.declared.names.NoInstance.{NoInstance}
 use Rattle.dcm_instance.specs.ReadInstance.{FileNames, no_set, of_set}
 use Rattle.dcm_instance.specs.Uids.{Uids, instance_in}
-use Rattle.dcm_words.specs.Words.{Job, dump, dump_decoded, convert, build as building, modify, deidentify}
-use Rattle.dcm_cli.proofs.Runs.OneFirst.{one_first}
+use Rattle.dcm_words.specs.declared.job.Texts.{Texts}
+use Rattle.dcm_words.specs.Words.{Job, Named, dump, dump_decoded, dump_named, convert, build as building, modify, deidentify}
+use Rattle.dcm_cli.proofs.Runs.OneFirst.{one_first, never_begins}
 use Rattle.dcm_cli.proofs.Runs.OneSource.{heads_alike, one_source}
 use Rattle.dcm_cli.proofs.Runs.Sure.{beginnings_alike}
-use Rattle.dcm_cli.specs.Answer.{Source, alone, AloneReads, output_of, set_at}
+use Rattle.dcm_cli.specs.Answer.{Source, output_of, set_at}
 use Rattle.dcm_cli.specs.First.{FirstReads}
 use Rattle.dcm_cli.specs.Run.{Answered, ReadEnds, verdict_of_source}
 use Rattle.dcm_cli.specs.declared.ending.Verdict.{Verdict}
@@ -39,11 +40,6 @@ use Rattle.dcm_tree_laws.proofs.SharesBy.{one_job, not_same, same_key}
 by_source : (job : Job) (input out other : List ℕ) (v w : Verdict) (x : ReadEnds job input out v) (y : ReadEnds job input other w) → x.source ≡ y.source → (out ≡ other) × (v ≡ w)
 by_source job input out other v w x y is = (x.out_is ∙ ap (λ (s : Source). output_of job s) is ∙ sym y.out_is, x.verdict_is ∙ ap (λ (s : Source). verdict_of_source job s) is ∙ sym y.verdict_is)
 
-alone_once : (syntax : Syntax) (bytes : List ℕ) (x y : Source) → AloneReads syntax bytes x → AloneReads syntax bytes y → x ≡ y
-alone_once syntax bytes x y h k =
-    let one = reads_once no_bar syntax 0 bytes h.set k.set h.stop k.stop h.reads k.reads in
-    h.source_is ∙ ap (λ (f : Front). alone syntax f h.stop) one.0 ∙ ap (λ (stop : Stop). alone syntax k.set stop) one.1 ∙ sym k.source_is
-
 dumped_once : (d : Dictionary) (mode : Mode) (bare : Option Syntax) (input out other : List ℕ) (v w : Verdict) → Answered (dump d mode bare) input out v → Answered (dump d mode bare) input other w → (out ≡ other) × (v ≡ w)
 dumped_once d mode None input out other v w x y = by_source (dump d mode None) input out other v w x y (one_source (dump d mode None) input x.source y.source x.reads y.reads)
 dumped_once d mode (Some s) input out other v w x y = by_source (dump d mode (Some s)) input out other v w x y (alone_once (read_by d s) input x.source y.source x.reads y.reads)
@@ -52,9 +48,14 @@ decoded_once : (d : Dictionary) (mode : Mode) (bare : Option Syntax) (input out 
 decoded_once d mode None input out other v w x y = by_source (dump_decoded d mode None) input out other v w x y (one_source (dump_decoded d mode None) input x.source y.source x.reads y.reads)
 decoded_once d mode (Some s) input out other v w x y = by_source (dump_decoded d mode (Some s)) input out other v w x y (alone_once (read_by d s) input x.source y.source x.reads y.reads)
 
+named_once : (texts : Texts) (d : Dictionary) (mode : Mode) (bare : Option Syntax) (named : Named) (input out other : List ℕ) (v w : Verdict) → Answered (dump_named texts d mode bare named) input out v → Answered (dump_named texts d mode bare named) input other w → (out ≡ other) × (v ≡ w)
+named_once texts d mode None named input out other v w x y = by_source (dump_named texts d mode None named) input out other v w x y (one_source (dump_named texts d mode None named) input x.source y.source x.reads y.reads)
+named_once texts d mode (Some s) named input out other v w x y = by_source (dump_named texts d mode (Some s) named) input out other v w x y (alone_once (read_by d s) input x.source y.source x.reads y.reads)
+
 pub answered_once : (job : Job) (input out other : List ℕ) (v w : Verdict) → Answered job input out v → Answered job input other w → (out ≡ other) × (v ≡ w)
 answered_once (dump d mode bare) input out other v w x y = dumped_once d mode bare input out other v w x y
 answered_once (dump_decoded d mode bare) input out other v w x y = decoded_once d mode bare input out other v w x y
+answered_once (dump_named texts d mode bare named) input out other v w x y = named_once texts d mode bare named input out other v w x y
 answered_once (convert d target) input out other v w x y = by_source (convert d target) input out other v w x y (one_source (convert d target) input x.source y.source x.reads y.reads)
 answered_once (building limit) input out other v w x y = (x.out_is ∙ sym y.out_is, x.verdict_is ∙ sym y.verdict_is)
 answered_once (modify d edits) input out other v w x y = by_source (modify d edits) input out other v w x y (one_source (modify d edits) input x.source y.source x.reads y.reads)
@@ -110,9 +111,6 @@ done_is_answer task bytes output verdict x done =
     }
 
 -- ---- the instance that it names
-
-never_begins : (f : Fault) (n : ℕ) (m : Meta) (group : List ℕ) (coding : Coding) → refused f n ≡ begins m group coding → ⊥
-never_begins f n m group coding e = cc
 
 module _ (bytes : List ℕ) where
   abbrev ReadsSet : List ℕ → Coding → Front → Stop → Type 0

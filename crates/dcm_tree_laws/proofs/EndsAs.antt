@@ -2,6 +2,7 @@
 use Rattle.std.proofs.Common.{◌≡◌, ◌∙◌, refl, sym, ap, subst, ℕ, ◌+◌, ◌≤◌, List, length, Bool, true, false, None, Result, Ok, Err}
 use Rattle.std.specs.Prelude.{◌≢◌, nat_le}
 use Rattle.std.specs.Str.{IsUtf8}
+use Rattle.dcm_lemmas.proofs.Truth.{is_false, true_false}
 use Rattle.dcm_base.specs.Reading.Reads.{INPUT_LIMIT}
 use Rattle.dcm_devices.specs.Writing.{Writer}
 use Rattle.dcm_files.specs.declared.folders.Links.TheVariants.{Followed}
@@ -62,13 +63,6 @@ use Rattle.dcm_tree_laws.proofs.Working.{working_also, working_sure, working_can
 use Rattle.dcm_tree_laws.proofs.Works as works
 use Rattle.dcm_tree_laws.proofs.Written.{is_ready, more}
 
-true_false : {A : Type 0} (b : Bool) → b ≡ true → b ≡ false → A
-true_false b e f = absurd (cc)
-
-not_true : (b : Bool) → (b ≡ true → ⊥) → b ≡ false
-not_true true not = absurd (not refl)
-not_true false not = refl
-
 -- ---- what becomes of it
 
 -- its output is named by this instance, where a run comes to this: by what was there before
@@ -76,7 +70,7 @@ pub record PlacedAs {I O : Type 0} (h : Host I O) (k : Manner) (out : List ℕ) 
   pub named : IsNamedBy uids done
   pub free : IsFree h k.output (instance_name uids) before → Frees h k (instance_name uids) → done.fate ≡ verdict_fate verdict
   pub there : HasFileAt h k.output (instance_name uids) before out → length out ≤ INPUT_LIMIT → done.fate ≡ fates.There
-  pub other : (its : List ℕ) → HasFileAt h k.output (instance_name uids) before its → its ≢ out → done.fate ≡ fates.Occupied
+  pub other : (its : List ℕ) → HasFileAt h k.output (instance_name uids) before its → its ≢ out → done.fate ≡ fates.Taken
 
 -- it ends without a name; or its name is too long; or it is placed
 pub data EndsTold {I O : Type 0} (h : Host I O) (k : Manner) (bytes : List ℕ) (before : Tree) (done : Done) : Type 0 where
@@ -117,7 +111,7 @@ module _ {I O : Type 0} (h : Host I O) (k : Manner) (bytes : List ℕ) (before :
 place_there : (naming : Naming) (fate : Fate) (same : Bool) → naming ≡ NotFree places.There → same ≡ true → naming_fate naming fate same ≡ fates.There
 place_there naming fate same is alike = ap (λ (x : Naming). naming_fate x fate same) is ∙ ap (λ (b : Bool). naming_fate (NotFree places.There) fate b) alike
 
-place_other : (naming : Naming) (fate : Fate) (same : Bool) → naming ≡ NotFree places.There → same ≡ false → naming_fate naming fate same ≡ fates.Occupied
+place_other : (naming : Naming) (fate : Fate) (same : Bool) → naming ≡ NotFree places.There → same ≡ false → naming_fate naming fate same ≡ fates.Taken
 place_other naming fate same is alike = ap (λ (x : Naming). naming_fate x fate same) is ∙ ap (λ (b : Bool). naming_fate (NotFree places.There) fate b) alike
 
 module _ {I O E : Type 0} (F : Type 0) (h : Host I O) (r : Reader I) (w : Writer O) (e : Writer E) (all : GivesAll h (as_whole h r) w) (k : Manner) (part_text : IsUtf8 k.part) (of_output : IsNear k.output k.part) (leads : h.leads Followed k.part ≡ place_of h k.part) where
@@ -129,7 +123,7 @@ module _ {I O E : Type 0} (F : Type 0) (h : Host I O) (r : Reader I) (w : Writer
     path_leads : h.leads Followed (below k.output relative) ≡ place_of h (below k.output relative)
     its_are : s.now.bytes (number_of there.file.found) ≡ its
 
-  met : (relative held its : List ℕ) (s : FileSystem) (naming : Naming) (named : FileSystem) → AtOutput relative held its s → GivesFreeName (working_may h r w (may_do h)) (working_folders h (sure (folders_do {F = F} h))) k.part (below k.output relative) (length k.output + 1) s naming named
+  met : (relative held its : List ℕ) (s : FileSystem) (naming : Naming) (named : FileSystem) → AtOutput relative held its s → GivesFreeName (working_may h r w (may_do h)) (working_folders h (sure (folders_do {F = F} h))) k.modes k.part (below k.output relative) (length k.output + 1) s naming named
       → (naming ≡ NotFree places.There) × (named ≡ s)
   met relative held its s naming named x (instance.not_free p f nf is) =
       let path : List ℕ = below k.output relative in
@@ -152,7 +146,7 @@ module _ {I O E : Type 0} (F : Type 0) (h : Host I O) (r : Reader I) (w : Writer
   is_other : (relative held its : List ℕ) (s : FileSystem) (naming : Naming) (same : Bool) (after : FileSystem) → AtOutput relative held its s → its ≢ held → FindsCopy (working_may h r w (may_do h)) (as_whole h r) naming k.part (below k.output relative) s same after → same ≡ false
   is_other relative held its s naming same after x differ (instance.not_there none no_copy stays) = no_copy
   is_other relative held its s naming same after x differ (instance.compared there c) =
-      not_true same (λ is. differ (sym x.its_are ∙ sym (compared_bytes h r w all k.part (below k.output relative) s after part_text x.there.file.text x.part (its_file relative held its s x)
+      is_false same (λ is. differ (sym x.its_are ∙ sym (compared_bytes h r w all k.part (below k.output relative) s after part_text x.there.file.text x.part (its_file relative held its s x)
       (subst (λ (b : Bool). ComparesFiles (working_may h r w (may_do h)) (as_whole h r) k.part (below k.output relative) s b after) is c)) ∙ x.part_is))
 
   module _ (name relative held : List ℕ) (fate : Fate) (from : E) (s : FileSystem) (became : Fate) (to : E) (after : FileSystem) (p : PlacesPart (working {F = F} h r w e) k name (below k.output relative) fate from s became to after) where
@@ -167,7 +161,7 @@ module _ {I O E : Type 0} (F : Type 0) (h : Host I O) (r : Reader I) (w : Writer
         let is : p.naming ≡ NotFree places.There = (met relative held held s p.naming p.named x p.gives).0 in
         p.becomes ∙ place_there p.naming fate p.same is (is_same relative held held s p.naming p.same p.compared x refl fits is (copy_at held x))
 
-    becomes_other : (its : List ℕ) → AtOutput relative held its s → its ≢ held → became ≡ fates.Occupied
+    becomes_other : (its : List ℕ) → AtOutput relative held its s → its ≢ held → became ≡ fates.Taken
     becomes_other its x differ = p.becomes ∙ place_other p.naming fate p.same (met relative held its s p.naming p.named x p.gives).0 (is_other relative held its s p.naming p.same p.compared x differ (copy_at its x))
 
   -- ---- a file
@@ -225,13 +219,13 @@ module _ {I O E : Type 0} (F : Type 0) (h : Host I O) (r : Reader I) (w : Writer
       let x : HasDone job bytes (h.took f.written) ending = subst (λ (b : List ℕ). HasDone job b (h.took f.written) ending) holds (job_done h r w all job input output made ending was_filled sound part.new f) in
       let its : ending_fate ending ≡ verdict_fate x.verdict = ap ending_fate x.is in
       let over = as_any h r w job input output made ending was_filled f in
-      let closes : ClosesOutput made.written (h.took f.written) made was_filled = subst (λ (s : FileSystem). ClosesOutput made.written (h.took f.written) made s) (sym f.releases) f.closes.0 in
+      let closes : ClosesOutput made.written (h.took f.written) (h.took f.written) made was_filled = subst (λ (s : FileSystem). ClosesOutput made.written (h.took f.written) (h.took f.written) made s) (sym f.releases) f.closes.0 in
       part_told name bytes (h.took f.written) (ending_fate ending) x.verdict told opened was_filled done to after
       (record {
         none = part.makes.nothing;
         whole = whole_at h k.part mode (h.took f.written) opened made was_filled part.makes closes;
         ready_now = is_ready (h.took f.written) (more (more (record { none = none; of_output = of_output; steps = no_step refl refl }) (part_is_made {F = F} h (λ mode held. held ≡ h.took f.written) k.part k.output mode opened output made makes))
-            (is_filled_as h (λ mode held. held ≡ h.took f.written) (as_whole h r) w k.part k.output (h.masked mode) job input output made ending was_filled over refl));
+            (is_filled_as h (λ mode held. held ≡ h.took f.written) (as_whole h r) w k.part k.output (h.masked mode) job input output made ending was_filled over was refl));
         frees = λ relative free clear. then_free h k relative clear made.now was_filled.now (filled h (as_whole h r) w k relative job input output made ending was_filled ⊥ over)
             (then_free h k relative clear opened.now made.now (made_part {F = F} h k.part k.output relative ⊥ mode opened output made makes) free);
       }) (record { job = job; is_job = is_job; answered = x.answered }) (sym (ap is_written its) ∙ was) its names

@@ -3,6 +3,8 @@ use Rattle.std.proofs.Common.{◌≡◌, ◌∙◌, refl, sym, ap, subst, ℕ, �
 use Rattle.std.specs.Prelude.{◌≢◌}
 use Rattle.std.specs.Option.{is_none}
 use Rattle.std.specs.Str.{IsUtf8}
+use Rattle.dcm_lemmas.proofs.Options.{none_or_some}
+use Rattle.dcm_lemmas.proofs.Truth.{true_false}
 use Rattle.dcm_devices.specs.Writing.{Writer}
 use Rattle.dcm_files.specs.Folders.{FoldersDo}
 use Rattle.dcm_files.specs.declared.folders.Found.{Found}
@@ -31,9 +33,10 @@ use Rattle.dcm_trees.specs.File as files
 use Rattle.dcm_trees.specs.File.{DoesReady, DoesFree, DoesPlaced, DoesNamed, DoesFile, DoesName, is_media_index, under_its_name}
 use Rattle.dcm_trees.specs.Lines.{ending_fate, no_days_fate}
 use Rattle.dcm_trees.specs.Manner.{Manner}
+use Rattle.dcm_trees.specs.Modes.{Modes}
 use Rattle.dcm_trees.specs.Part as parts
-use Rattle.dcm_trees.specs.Part.{MakesPart, Fills, GivesSecondName, GivesName, NamesOutput, FillsAndNames, TellsNoPart, naming_fate}
-use Rattle.dcm_trees.specs.Place.{Looks, LooksAlong, Finds, FindsFolder, HasFolder, AreMade, MakesWay, end_of_way, end_of_found, end_at, is_free, path_in}
+use Rattle.dcm_trees.specs.Part.{MakesPart, Fills, after_closing, GivesSecondName, GivesName, NamesOutput, FillsAndNames, TellsNoPart, naming_fate}
+use Rattle.dcm_trees.specs.Place.{Looks, LooksAlong, Finds, FindsFolder, MakesNew, HasFolder, AreMade, MakesWay, end_of_way, end_of_found, end_at, is_free, path_in}
 use Rattle.dcm_trees.specs.Place as looking
 use Rattle.dcm_trees.specs.Task.{Task}
 use Rattle.dcm_tree_laws.specs.Again.{sure}
@@ -44,14 +47,15 @@ use Rattle.dcm_tree_laws.specs.Single.{IsJobOf}
 use Rattle.dcm_tree_laws.proofs.Near.{IsNear}
 use Rattle.dcm_tree_laws.specs.Together.{TakesFolder, IsFree, end_fate}
 use Rattle.dcm_tree_laws.proofs.Files.{path_is}
+use Rattle.dcm_tree_laws.proofs.Closing.{finished_of}
 use Rattle.dcm_tree_laws.proofs.Filling.{part_is_made, part_is_new, is_filled_as, is_output}
 use Rattle.dcm_tree_laws.proofs.Frees.{IsUntouched, free_stays}
-use Rattle.dcm_tree_laws.proofs.Given.{none_some}
 use Rattle.dcm_tree_laws.proofs.Held.{GivesAll}
 use Rattle.dcm_tree_laws.proofs.Jobs.{finds_job}
 use Rattle.dcm_tree_laws.proofs.Left.{sure_quiet, too_long}
-use Rattle.dcm_tree_laws.proofs.Looking.{along, folders, beyond, finds, same_ok}
+use Rattle.dcm_tree_laws.proofs.Looking.{along, folders, beyond, finds, seeks_mode, always_mode, same_ok}
 use Rattle.dcm_tree_laws.proofs.Making as making
+use Rattle.dcm_tree_laws.proofs.Quiet.{Quiet}
 use Rattle.dcm_tree_laws.proofs.Steps.{idle, writing, whole, quiet}
 use Rattle.dcm_tree_laws.proofs.Sure as sures
 use Rattle.dcm_tree_laws.proofs.Touched.{Touches, are_made, way_made, made_part, filled, no_done}
@@ -65,8 +69,14 @@ use Rattle.dcm_tree_laws.proofs.Written.{IsIdle, more, is_ready, not_ok}
 abbrev pub Works : {I O F : Type 0} → Host I O → FoldersDo FileSystem O F
 Works h = working_folders h (sure (folders_do h))
 
-true_false : {A : Type 0} (b : Bool) → b ≡ true → b ≡ false → A
-true_false b e f = absurd (cc)
+pub works_quiet : {I O F : Type 0} (h : Host I O) → Quiet (Works {F = F} h)
+works_quiet {I} {O} {F} h = record {
+  finds = λ before path links r after call. (sure_quiet {F = F} h).finds before path links r after call;
+  modes = λ before folder name r after call. (sure_quiet {F = F} h).modes before folder name r after call;
+  opens = λ before path r after call. (sure_quiet {F = F} h).opens before path r after call;
+  names = λ before folder r left after call. (sure_quiet {F = F} h).names before folder r left after call;
+  closes = λ before folder after call. (sure_quiet {F = F} h).closes before folder after call;
+}
 
 -- ---- looking
 
@@ -122,13 +132,19 @@ module _ {I O F : Type 0} (h : Host I O) where
   finds_no_folder : (path : List ℕ) (before : FileSystem) (b : Bool) (after : FileSystem) → b ≡ false → TakesFolder h before.now path → at_path h before.now path ≢ None → FindsFolder (Works {F = F} h) path before b after → ⊥
   finds_no_folder path before b after not takes some (looking.by_looking seen l is) = true_false (is_none (end_of_way seen)) (sees_folder path before seen after takes some l) (sym is ∙ not)
 
-  no_folder_not : (path : List ℕ) (before : FileSystem) (x : NotMade) (after : FileSystem) → TakesFolder h before.now path → HasFolder (Works {F = F} h) path before (Err x) after → ⊥
-  no_folder_not path before x after takes (looking.no_text e t is same) = t takes.text
-  no_folder_not path before x after takes (looking.made t call is) = absurd (cc)
-  no_folder_not path before x after takes (looking.was_there cause tried t call k f is) = absurd (cc)
-  no_folder_not path before x after takes (looking.no_folder cause e tried t call k f is) =
+  no_new_not : (path : List ℕ) (mode : ℕ) (before : FileSystem) (x : NotMade) (after : FileSystem) → TakesFolder h before.now path → MakesNew (Works {F = F} h) path mode before (Err x) after → ⊥
+  no_new_not path mode before x after takes (looking.no_text e t is same) = t takes.text
+  no_new_not path mode before x after takes (looking.made t call is) = absurd (cc)
+  no_new_not path mode before x after takes (looking.was_there cause tried t call k f is) = absurd (cc)
+  no_new_not path mode before x after takes (looking.no_folder cause e tried t call k f is) =
       finds_no_folder path tried false after refl (subst (λ (s : FileSystem). TakesFolder h s.now path) (sym call.0) takes) (subst (λ (s : FileSystem). at_path h s.now path ≢ None) (sym call.0) call.1.0) f
-  no_folder_not path before x after takes (looking.not_made cause e t call k is) = k call.1.1
+  no_new_not path mode before x after takes (looking.not_made cause e t call k is) = k call.1.1
+
+  no_folder_not : {modes : Modes} {base : ℕ} (path : List ℕ) (before : FileSystem) (x : NotMade) (after : FileSystem) → TakesFolder h before.now path → HasFolder (Works {F = F} h) modes path base before (Err x) after → ⊥
+  no_folder_not path before x after takes (looking.there_already f is) = absurd (cc)
+  no_folder_not path before x after takes (looking.no_mode n e looked f m is) = always_mode (Works {F = F} h) (λ start folder name error end call. call.1 error refl) looked n after m
+  no_folder_not path before x after takes (looking.has_mode mode looked seen f m new) =
+      no_new_not path mode seen x after (subst (λ (s : FileSystem). TakesFolder h s.now path) (sym (seeks_mode (Works {F = F} h) (works_quiet h) path before looked (Ok mode) seen f m)) takes) new
 
 -- ---- a way
 
@@ -141,7 +157,7 @@ module _ {I O : Type 0} (h : Host I O) (k : Manner) (relative : List ℕ) (clear
   then_free t u touches free = free_stays h k.part k.output relative relative ⊥ clear t u touches free
 
 module _ {I O F : Type 0} (h : Host I O) (k : Manner) (relative path : List ℕ) (is : path ≡ below k.output relative) (clear : Frees h k relative) where
-  way_not : (base : ℕ) → length k.output + 1 ≤ base → (before : FileSystem) (x : NotMade) (after : FileSystem) → IsFree h k.output relative before.now → MakesWay (Works {F = F} h) path base before (Err x) after → ⊥
+  way_not : {modes : Modes} (base : ℕ) → length k.output + 1 ≤ base → (before : FileSystem) (x : NotMade) (after : FileSystem) → IsFree h k.output relative before.now → MakesWay (Works {F = F} h) modes path base before (Err x) after → ⊥
   way_not base least before x after free (looking.all_made at more slash e) = absurd (cc)
   way_not base least before x after free (looking.not_all at size e mid more slash has was) =
       let over = sures.are_made (Works {F = F} h) (folders_do {F = F} h) (working_can h) path base before at mid more in
@@ -159,10 +175,10 @@ module _ {I O F : Type 0} (h : Host I O) (r : Reader I) (w : Writer O) (k : Mann
   is_linked IsWhole base start before naming after i free (parts.no_text t u x same) = absurd (u (subst IsUtf8 (sym is) free.text))
   is_linked IsWhole base start before naming after i free (parts.linked t u call x) = x
   is_linked IsWhole base start before naming after i free (parts.not_linked x tried t u call m) =
-      absurd (call.1 (λ none. none_some (at_path h before.now k.part) (ready i).file none (ready i).is) (ap (λ (p : List ℕ). at_path h before.now p) is ∙ free.nothing))
+      absurd (call.1 (λ none. none_or_some (at_path h before.now k.part) (ready i).file none (ready i).is) (ap (λ (p : List ℕ). at_path h before.now p) is ∙ free.nothing))
 
-  pub gets_name : (IsWhole : ℕ → List ℕ → Type 0) (start before : FileSystem) (naming : Naming) (after : FileSystem) → IsReady h IsWhole k.part k.output bytes start before → IsFree h k.output relative before.now
-      → GivesName (working_may h r w (may_do h)) (Works {F = F} h) k.part path (length k.output + 1) before naming after → naming ≡ Linked
+  pub gets_name : {modes : Modes} (IsWhole : ℕ → List ℕ → Type 0) (start before : FileSystem) (naming : Naming) (after : FileSystem) → IsReady h IsWhole k.part k.output bytes start before → IsFree h k.output relative before.now
+      → GivesName (working_may h r w (may_do h)) (Works {F = F} h) modes k.part path (length k.output + 1) before naming after → naming ≡ Linked
   gets_name IsWhole start before naming after i free (parts.no_way x m y) = absurd (way_not {F = F} h k relative path is clear (length k.output + 1) (omega arith) before x after free m)
   gets_name IsWhole start before naming after i free (parts.on_its_way has_way m g) =
       let over = sures.makes_way (Works {F = F} h) (folders_do {F = F} h) (working_can h) path (length k.output + 1) before (Ok _) has_way m in
@@ -174,7 +190,7 @@ module _ {I O F : Type 0} (h : Host I O) (r : Reader I) (w : Writer O) (k : Mann
 
 abbrev pub as_any : {I O : Type 0} (h : Host I O) (r : Reader I) (w : Writer O) (job : Job) (input : I) (output : O) (before : FileSystem) (ending : Ending) (after : FileSystem) → Fills (working_may h r w (may_do h)) (as_whole h r) w job input output before ending after
     → Fills (may_do h) (as_whole h r) w job input output before ending after
-as_any h r w job input output before ending after f = record { left = f.left; written = f.written; closed = f.closed; finished = f.finished; closes = f.closes.0; releases = f.releases }
+as_any h r w job input output before ending after f = record { left = f.left; written = f.written; closed = f.closed; ended = f.ended; closing = Ok _; finished = f.finished; remarks = f.remarks; remarked = f.remarked; closes = f.closes.0; releases = f.releases; ending_is = f.ending_is ∙ ap (after_closing f.ended) f.closes.2 }
 
 -- ---- how the bytes of a file end
 
@@ -229,7 +245,7 @@ module _ {I O F E : Type 0} (h : Host I O) (r : Reader I) (w : Writer O) (e : Wr
       let now : IsFree h k.output n.relative was_filled.now =
       then_free h k n.relative clear before.now was_filled.now (filled h (as_whole h r) w k n.relative job input output before ending was_filled ⊥ over) free in
       let ready_now : IsReady h (IsOutput h (as_whole h r) w) k.part k.output (h.took f.written) start was_filled = is_ready (h.took f.written) (more i
-      (is_filled_as h (IsOutput h (as_whole h r) w) (as_whole h r) w k.part k.output (h.masked mode) job input output before ending was_filled over (is_output h (as_whole h r) w mode job input f.left output f.written ending new f.finished done))) in
+      (is_filled_as h (IsOutput h (as_whole h r) w) (as_whole h r) w k.part k.output (h.masked mode) job input output before ending was_filled over done (is_output h (as_whole h r) w mode job input f.left output f.written ending new (finished_of f done) done))) in
       let linked : names.naming ≡ Linked = gets_name {F = F} h r w k n.relative path (h.took f.written) is clear part_text (IsOutput h (as_whole h r) w) start was_filled names.naming names.named ready_now now names.gives in
       by_verdict k.task bytes (h.took f.written) job fate ending is_job (names.becomes ∙ ap (λ (x : Naming). naming_fate x (ending_fate ending) k.continues) linked)
       (subst (λ (b : List ℕ). HasDone job b (h.took f.written) ending) holds (job_done h r w all job input output before ending was_filled sound new f))

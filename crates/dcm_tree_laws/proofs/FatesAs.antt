@@ -1,8 +1,9 @@
 -- What a file comes to whose output is named by the instance in it, where no call fails that need not.
-use Rattle.std.proofs.Common.{◌≡◌, ◌∙◌, refl, sym, ap, subst, ℕ, ◌+◌, List, length, Bool, true, false, Some, None, Result, Ok, Err}
+use Rattle.std.proofs.Common.{◌≡◌, ◌∙◌, refl, sym, ap, subst, ℕ, ◌+◌, List, length, true, false, Some, None, Result, Ok, Err}
 use Rattle.std.specs.Prelude.{[]}
 use Rattle.std.specs.Str.{IsUtf8}
 use Rattle.arrayvec.specs.ArrayVec.{ArrayVec}
+use Rattle.dcm_lemmas.proofs.Truth.{true_false}
 use Rattle.dcm_devices.specs.Writing.{Writer}
 use Rattle.dcm_files.specs.declared.folders.Links.TheVariants.{Followed}
 use Rattle.dcm_instance.specs.declared.names.Instance.{Instance}
@@ -51,15 +52,11 @@ use Rattle.dcm_tree_laws.proofs.Left.{sure_quiet, too_long}
 use Rattle.dcm_tree_laws.proofs.Looking.{finds, same_ok}
 use Rattle.dcm_tree_laws.proofs.Steps.{no_step, quiet}
 use Rattle.dcm_tree_laws.proofs.Sure as sures
-use Rattle.dcm_tree_laws.proofs.Touched.{made_part, filled}
-use Rattle.dcm_tree_laws.proofs.TouchedAs.{no_err}
+use Rattle.dcm_tree_laws.proofs.Touched.{made_part, filled, no_done}
 use Rattle.dcm_tree_laws.proofs.WholePart.{IsReady, Ready, ready, then_steps}
 use Rattle.dcm_tree_laws.proofs.Working.{working_also, working_sure, working_can, not_unopened, is_opened, IsOpened, job_found, JobIs, job_done, HasDone, instance_found}
 use Rattle.dcm_tree_laws.proofs.Works as works
 use Rattle.dcm_tree_laws.proofs.Written.{is_ready, more}
-
-true_false : {A : Type 0} (b : Bool) → b ≡ true → b ≡ false → A
-true_false b e f = absurd (cc)
 
 -- ---- one instance
 
@@ -94,7 +91,7 @@ earlier_named h k bytes t u done same ends = subst (λ (s : FileSystem). EndsNam
 module _ {I O F : Type 0} (h : Host I O) (r : Reader I) (w : Writer O) (k : Manner) (part_text : IsUtf8 k.part) where
   -- the part gets its name where that is free
   pub links : (IsWhole : ℕ → List ℕ → Type 0) (path relative bytes : List ℕ) → path ≡ below k.output relative → Frees h k relative → (start before : FileSystem) (naming : Naming) (after : FileSystem) → IsReady h IsWhole k.part k.output bytes start before → IsFree h k.output relative before.now
-      → GivesFreeName (working_may h r w (may_do h)) (Works {F = F} h) k.part path (length k.output + 1) before naming after → naming ≡ Linked
+      → GivesFreeName (working_may h r w (may_do h)) (Works {F = F} h) k.modes k.part path (length k.output + 1) before naming after → naming ≡ Linked
   links IsWhole path relative bytes is clear start before naming after i free (instance.not_free place f nf n) =
       true_false (is_free place) (finds_free {F = F} h k.output relative path is before place after free (sures.finds (Works {F = F} h) (sure (folders_do {F = F} h)) (working_sure {F = F} h).sees path (length k.output + 1) before place after f)) nf
   links IsWhole path relative bytes is clear start before naming after i free (instance.free place looked f nf g) =
@@ -146,14 +143,14 @@ module _ {I O F E : Type 0} (h : Host I O) (r : Reader I) (w : Writer O) (e : Wr
       let over = as_any h r w job input output made ending was_filled f in
       let ready_now : IsReady h (λ mode held. held ≡ h.took f.written) k.part k.output (h.took f.written) opened was_filled = is_ready (h.took f.written)
       (more (more (record { none = none; of_output = of_output; steps = no_step refl refl }) (part_is_made {F = F} h (λ mode held. held ≡ h.took f.written) k.part k.output mode opened output made makes))
-      (is_filled_as h (λ mode held. held ≡ h.took f.written) (as_whole h r) w k.part k.output (h.masked mode) job input output made ending was_filled over refl)) in
+      (is_filled_as h (λ mode held. held ≡ h.took f.written) (as_whole h r) w k.part k.output (h.masked mode) job input output made ending was_filled over was refl)) in
       named_part name bytes (h.took f.written) (ending_fate ending) told opened opened was_filled done to after d.verdict (record { job = job; is_job = is_job; answered = d.answered })
       (sym (ap (λ (y : Ending). is_written (ending_fate y)) d.is) ∙ was) was ready_now
       (λ relative free clear. then_free h k relative clear made.now was_filled.now (filled h (as_whole h r) w k relative job input output made ending was_filled ⊥ over)
       (then_free h k relative clear opened.now made.now (made_part {F = F} h k.part k.output relative ⊥ mode opened output made makes) free)) names
 
   pub no_part_as : {A : Type 0} (name : List ℕ) (mode : ℕ) (before : FileSystem) (cause : NoPart) (tried : FileSystem) (from : E) (result : Result Done RunStop) (to : E) (done : Done) → MakesPart (Works {F = F} h) k.part mode before (Err cause) tried → EndsWithoutPart e name cause from result to → result ≡ Ok done → A
-  no_part_as name mode before cause tried from result to done makes (instance.ended became (parts.ends_run p c t is) x) ok = absurd (no_err result p done (x ∙ ap instance.unnamed is) ok)
+  no_part_as name mode before cause tried from result to done makes (instance.ended became (parts.ends_run p c t is) x) ok = absurd (no_done result p done (x ∙ ap instance.unnamed is) ok)
   no_part_as name mode before cause tried from result to done makes (instance.ended became (parts.told c t is) x) ok = absurd (part_not {F = F} h k.part mode before cause tried part_text makes c)
 
   made_as : (job : Job) (n : Named) (bytes : List ℕ) (mode : ℕ) (from : E) (before : FileSystem) (result : Result Done RunStop) (to : E) (after : FileSystem) (done : Done) → before.written ≡ None → IsUtf8 n.path → IsHere h n.path bytes before.now → IsJobOf k.task bytes job

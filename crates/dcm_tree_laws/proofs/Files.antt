@@ -20,6 +20,7 @@ use Rattle.dcm_trees.specs.Instance as instance
 use Rattle.dcm_trees.specs.Instance.{GivesFreeName, PlacesPart, NamesBy, NamesPart, FillsByInstance, DoesByInstance, DoesUnnamed, name_of_instance}
 use Rattle.dcm_trees.specs.Lines.{ending_fate}
 use Rattle.dcm_trees.specs.Manner.{Manner}
+use Rattle.dcm_trees.specs.Modes.{Modes}
 use Rattle.dcm_trees.specs.Place.{path_in}
 use Rattle.dcm_trees.specs.declared.part.Naming.{Naming}
 use Rattle.dcm_trees.specs.declared.part.Naming.TheVariants.{NotFree}
@@ -27,6 +28,7 @@ use Rattle.dcm_tree_laws.specs.FileSystem.{FileSystem, Host, may_do, folders_do}
 use Rattle.dcm_tree_laws.specs.Laws.{IsOutput, over}
 use Rattle.dcm_tree_laws.specs.Stays.{IsOfOutput, within}
 use Rattle.dcm_tree_laws.proofs.Below.{found_names, file_leads, way_is_within}
+use Rattle.dcm_tree_laws.proofs.Closing.{finished_of}
 use Rattle.dcm_tree_laws.proofs.Filling.{opens_file, part_is_made_in, part_is_new, part_is_not_made, is_filled_in, is_not_filled_in, always_gives, fills_and_names}
 use Rattle.dcm_tree_laws.proofs.Gives.{GivesOutput, OpenGives, FileGives}
 use Rattle.dcm_tree_laws.proofs.Jobs.{finds_job, finds_instance, finds_copy}
@@ -110,7 +112,7 @@ module _ {I O F E : Type 0} (h : Host I O) (IsWhole : ℕ → List ℕ → Type 
   -- ---- a file whose output is named by the instance in it
 
   gives_free_in : (bytes path : List ℕ) → Leads Of path (length m.output + 1) → (before : FileSystem) (naming : Naming) (after : FileSystem)
-      → GivesFreeName (may_do {I = I} h) (folders_do {F = F} h) m.part path (length m.output + 1) before naming after → StepsIn h IsWhole m.part Of (whole bytes) before (phase_of bytes naming) after
+      → GivesFreeName (may_do {I = I} h) (folders_do {F = F} h) m.modes m.part path (length m.output + 1) before naming after → StepsIn h IsWhole m.part Of (whole bytes) before (phase_of bytes naming) after
   gives_free_in bytes path leads before naming after (instance.not_free place f nf i) =
       by_naming bytes naming (NotFree place) i (quiet (finds (folders_do {F = F} h) (are_quiet h) path (length m.output + 1) before place after f))
   gives_free_in bytes path leads before naming after (instance.free place looked f nf g) =
@@ -142,7 +144,7 @@ module _ {I O F E : Type 0} (h : Host I O) (IsWhole : ℕ → List ℕ → Type 
   fills_by_instance job name bits input output gives new from before done to after (instance.not_done ending was_filled fills not told removes is) =
       goes_on (is_not_filled_in h IsWhole r w m.part Of (h.masked bits) job input output before ending was_filled fills) (removes_part {I = I} h IsWhole m.part Of idle refl was_filled after removes)
   fills_by_instance job name bits input output gives new from before done to after (instance.has_done ending was_filled told fills is reports parts) =
-      goes_on (is_filled_in h IsWhole r w m.part Of (h.masked bits) job input output before ending was_filled fills (gives fills.left output fills.written ending new fills.finished is))
+      goes_on (is_filled_in h IsWhole r w m.part Of (h.masked bits) job input output before ending was_filled fills is (gives fills.left output fills.written ending new (finished_of fills is) is))
       (names_part name (h.took fills.written) (ending_fate ending) told was_filled done to after parts)
 
   by_instance : (job : Job) (n : Named) (mode : ℕ) (from : E) (before : FileSystem) (result : Result Done RunStop) (to : E) (after : FileSystem)
@@ -176,8 +178,8 @@ module _ {I O F E : Type 0} (h : Host I O) (IsWhole : ℕ → List ℕ → Type 
 
 -- ---- any name, and any output of a job that was done
 
-pub gives_free : {I O F : Type 0} (h : Host I O) (IsWhole : ℕ → List ℕ → Type 0) (part output bytes path relative : List ℕ) → path ≡ below output relative → (before : FileSystem) (naming : Naming) (after : FileSystem)
-    → GivesFreeName (may_do {I = I} h) (folders_do {F = F} h) part path (length output + 1) before naming after → Steps h IsWhole part output (whole bytes) before (phase_of bytes naming) after
+pub gives_free : {I O F : Type 0} {modes : Modes} (h : Host I O) (IsWhole : ℕ → List ℕ → Type 0) (part output bytes path relative : List ℕ) → path ≡ below output relative → (before : FileSystem) (naming : Naming) (after : FileSystem)
+    → GivesFreeName (may_do {I = I} h) (folders_do {F = F} h) modes part path (length output + 1) before naming after → Steps h IsWhole part output (whole bytes) before (phase_of bytes naming) after
 gives_free {I} {O} {F} h IsWhole part output bytes path relative is before naming after (instance.not_free place f nf i) =
     by_naming bytes naming (NotFree place) i (quiet (finds (folders_do {F = F} h) (are_quiet h) path (length output + 1) before place after f))
 gives_free {I} {O} {F} h IsWhole part output bytes path relative is before naming after (instance.free place looked f nf g) =

@@ -16,6 +16,7 @@ use Rattle.dcm_trees.specs.Part.{MakesPart, Fills, NamesOutput, FillsAndNames}
 use Rattle.dcm_trees.specs.Task.{Task}
 use Rattle.dcm_tree_laws.specs.FileSystem.{FileSystem, Host, may_do, folders_do}
 use Rattle.dcm_tree_laws.specs.Laws.{IsOutput, over}
+use Rattle.dcm_tree_laws.proofs.Closing.{closes_kept, closes_whole, finished_of}
 use Rattle.dcm_tree_laws.proofs.Looking.{same_ok}
 use Rattle.dcm_tree_laws.proofs.Gives.{GivesOutput, FileGives}
 use Rattle.dcm_tree_laws.proofs.Making.{Leads}
@@ -84,22 +85,24 @@ always_gives h r w task path mode s = λ job mid f input opened opens left made 
 
 -- what it has is what is asked for
 pub is_filled_in : {I O : Type 0} (h : Host I O) (IsWhole : ℕ → List ℕ → Type 0) (r : Reader I) (w : Writer O) (part : List ℕ) (Of : List ℕ → Type 0) (mode : ℕ) (job : Job) (input : I) (made : O) (before : FileSystem) (ending : Ending) (after : FileSystem)
-    → (fills : Fills (may_do h) r w job input made before ending after) → IsWhole mode (h.took fills.written) → StepsIn h IsWhole part Of (writing mode) before (whole (h.took fills.written)) after
-is_filled_in h IsWhole r w part Of mode job input made before ending after fills right = goes_on (one (filled mode (h.took fills.written) refl fills.closes right refl)) (quiet fills.releases)
+    → (fills : Fills (may_do h) r w job input made before ending after) → is_written (ending_fate ending) ≡ true → IsWhole mode (h.took fills.written) → StepsIn h IsWhole part Of (writing mode) before (whole (h.took fills.written)) after
+is_filled_in h IsWhole r w part Of mode job input made before ending after fills done right = goes_on (one (filled mode (h.took fills.written) refl (closes_whole fills done) right refl)) (quiet fills.releases)
 
 pub is_not_filled_in : {I O : Type 0} (h : Host I O) (IsWhole : ℕ → List ℕ → Type 0) (r : Reader I) (w : Writer O) (part : List ℕ) (Of : List ℕ → Type 0) (mode : ℕ) (job : Job) (input : I) (made : O) (before : FileSystem) (ending : Ending) (after : FileSystem)
     → Fills (may_do h) r w job input made before ending after → StepsIn h IsWhole part Of (writing mode) before idle after
-is_not_filled_in h IsWhole r w part Of mode job input made before ending after fills = goes_on (one (not_filled mode (h.took fills.written) refl fills.closes refl)) (quiet fills.releases)
+is_not_filled_in h IsWhole r w part Of mode job input made before ending after fills =
+    let closes = closes_kept before.written (h.took fills.written) before fills.closing fills.closed fills.closes in
+    goes_on (one (not_filled mode (h.took fills.written) closes.0 refl closes.1 refl)) (quiet fills.releases)
 
 -- where a path of the outputs is any that begins with their folder
 pub is_filled_as : {I O : Type 0} (h : Host I O) (IsWhole : ℕ → List ℕ → Type 0) (r : Reader I) (w : Writer O) (part output : List ℕ) (mode : ℕ) (job : Job) (input : I) (made : O) (before : FileSystem) (ending : Ending) (after : FileSystem)
-    → (fills : Fills (may_do h) r w job input made before ending after) → IsWhole mode (h.took fills.written) → Steps h IsWhole part output (writing mode) before (whole (h.took fills.written)) after
+    → (fills : Fills (may_do h) r w job input made before ending after) → is_written (ending_fate ending) ≡ true → IsWhole mode (h.took fills.written) → Steps h IsWhole part output (writing mode) before (whole (h.took fills.written)) after
 is_filled_as h IsWhole r w part output = is_filled_in h IsWhole r w part (IsNear output)
 
 pub is_filled : {I O : Type 0} (h : Host I O) (r : Reader I) (w : Writer O) (part output : List ℕ) (bits : ℕ) (job : Job) (input : I) (made : O) (before : FileSystem) (ending : Ending) (after : FileSystem)
     → h.took made ≡ [] → (fills : Fills (may_do h) r w job input made before ending after) → is_written (ending_fate ending) ≡ true → Steps h (IsOutput h r w) part output (writing (h.masked bits)) before (whole (h.took fills.written)) after
 is_filled h r w part output bits job input made before ending after new fills done =
-    is_filled_as h (IsOutput h r w) r w part output (h.masked bits) job input made before ending after fills (is_output h r w bits job input fills.left made fills.written ending new fills.finished done)
+    is_filled_as h (IsOutput h r w) r w part output (h.masked bits) job input made before ending after fills done (is_output h r w bits job input fills.left made fills.written ending new (finished_of fills done) done)
 
 pub is_not_filled : {I O : Type 0} (h : Host I O) (r : Reader I) (w : Writer O) (part output : List ℕ) (mode : ℕ) (job : Job) (input : I) (made : O) (before : FileSystem) (ending : Ending) (after : FileSystem)
     → Fills (may_do h) r w job input made before ending after → Steps h (IsOutput h r w) part output (writing mode) before idle after
@@ -119,5 +122,5 @@ pub fills_and_names : {I O F E : Type 0} (h : Host I O) (IsWhole : ℕ → List 
 fills_and_names {I} h IsWhole r w e job m Of name path leads bits input output gives new from before fate to after (spec.not_done ending was_filled fills done told removes f) =
     goes_on (is_not_filled_in h IsWhole r w m.part Of (h.masked bits) job input output before ending was_filled fills) (removes_part {I = I} h IsWhole m.part Of idle refl was_filled after removes)
 fills_and_names {I} {O} {F} h IsWhole r w e job m Of name path leads bits input output gives new from before fate to after (spec.has_done ending was_filled told fills done reports names) =
-    goes_on (is_filled_in h IsWhole r w m.part Of (h.masked bits) job input output before ending was_filled fills (gives fills.left output fills.written ending new fills.finished done))
+    goes_on (is_filled_in h IsWhole r w m.part Of (h.masked bits) job input output before ending was_filled fills done (gives fills.left output fills.written ending new (finished_of fills done) done))
     (names_output {I = I} {F = F} h IsWhole e m Of name path (h.took fills.written) leads (ending_fate ending) told was_filled fate to after names)

@@ -1,9 +1,9 @@
 -- Two runs whose files come to the same in pairs leave the same in the folder of the outputs.
-use Rattle.std.proofs.Common.{◌≡◌, ◌∙◌, refl, sym, ap, subst, ℕ, ◌≤◌, max, List, [], ◌∷◌, ◌++◌, length, Bool, true, false, Option, Some, None, Result, Ok}
+use Rattle.std.proofs.Common.{◌≡◌, ◌∙◌, refl, sym, ap, subst, ℕ, ◌≤◌, max, List, [], ◌∷◌, ◌++◌, length, Bool, true, false, Option, None, Result, Ok}
 use Rattle.std.specs.Str.{IsUtf8}
+use Rattle.dcm_lemmas.proofs.Truth.{true_false}
 use Rattle.dcm_base.specs.Reading.Reads.{INPUT_LIMIT}
 use Rattle.dcm_devices.specs.Writing.{Writer}
-use Rattle.dcm_files.specs.declared.folders.Found.{Found}
 use Rattle.dcm_files.specs.declared.folders.Links.TheVariants.{Followed}
 use Rattle.dcm_walk.specs.Names.{below}
 use Rattle.dcm_walk.specs.Visits.{Named}
@@ -40,8 +40,7 @@ use Rattle.dcm_tree_laws.specs.Single.{TellsAll}
 use Rattle.dcm_tree_laws.specs.Stays.{IsOfOutput}
 use Rattle.dcm_tree_laws.proofs.Below.{part_is_within}
 use Rattle.dcm_tree_laws.proofs.Becomes.{Becomes, BecomeAlike, becomes, becomes_once}
-use Rattle.dcm_tree_laws.proofs.CopiesBy.{over_visit}
-use Rattle.dcm_tree_laws.proofs.Given.{none_some}
+use Rattle.dcm_tree_laws.proofs.CopiesBy.{over_visit, apart_by}
 use Rattle.dcm_tree_laws.proofs.Lists.{lines_do}
 use Rattle.dcm_tree_laws.proofs.Onwards.{calls_of, calls_quiet}
 use Rattle.dcm_tree_laws.proofs.Near.{IsNear}
@@ -147,9 +146,6 @@ record Goes {I O : Type 0} (h : Host I O) (w : Writer O) (start : Tree) (k : Man
   none : at_path h start k.part ≡ None
   follows : FollowsLinks h start
 
-apart_by : (t : Tree) (place part : List ℕ) (f : Found) → t.at part ≡ None → t.at place ≡ Some f → place ≡ part → ⊥
-apart_by t place part f none is same = none_some (t.at part) f none (ap t.at (sym same) ∙ is)
-
 follows_still : {I O : Type 0} (h : Host I O) (part : List ℕ) (start now : Tree) → at_path h start part ≡ None → Still h part start now → FollowsLinks h start → FollowsLinks h now
 follows_still h part start now none still follows =
     λ path no_other. follows path (λ f at. no_other f (still.there (place_of h path) f (apart_by start (place_of h path) (place_of h part) f none at) at))
@@ -172,17 +168,13 @@ visited {I} {O} {F} h r w e k n what start from before done to after goes still 
       (subst (λ (b : List ℕ). EndsAs k.task b end) (sym (still.bytes (h.leads Followed n.path) file.it.file.file (apart_by start (h.leads Followed n.path) (place_of h k.part) file.it.file.file goes.none file.it.file.is) file.it.file.is)) file.ends) gone does;
 }
 
--- it is of the run's share
-not_another : {A : Type 0} (b : Bool) → b ≡ true → b ≡ false → A
-not_another b is not = absurd (cc)
-
 and_visited : {I O F W E : Type 0} (h : Host I O) (r : Reader I) (w : Writer O) (e : Writer E) (m : Writer W) (shared : Shared) (start : FileSystem) (from : Progress W) (told_before : E) (before : FileSystem) (n : Named) (what : What) (result : Result (Unit {0}) Stopped) (to : Progress W) (told : E) (after : FileSystem)
     → (earlier visits : List Visit) → visits ≡ earlier ++ visit_of n what ∷ [] → is_of shared.part.number shared.part.count n.relative ≡ true
     → ((done : Done) (mid : E) → DoesName (working {F = F} h r w e) (manner_of shared.manner) n what told_before before (Ok done) mid after → VisitedAs h (manner_of shared.manner).output (manner_of shared.manner).part (manner_of shared.manner).task start.now (visit_of n what) before done.fate after)
     → VisitsName (working {F = F} h r w e) m shared from told_before before n what result to told after → to.stop ≡ None
     → (from.stop ≡ None → Chain h (manner_of shared.manner).output (manner_of shared.manner).part (manner_of shared.manner).task start earlier from.status from.is_empty before)
     → Chain h (manner_of shared.manner).output (manner_of shared.manner).part (manner_of shared.manner).task start visits to.status to.is_empty after
-and_visited h r w e m shared start from told_before before n what result to told after earlier visits more share make (spec.of_another none is t same ok) stop had = not_another (is_of shared.part.number shared.part.count n.relative) share none
+and_visited h r w e m shared start from told_before before n what result to told after earlier visits more share make (spec.of_another none is t same ok) stop had = true_false (is_of shared.part.number shared.part.count n.relative) share none
 and_visited h r w e m shared start from told_before before n what result to told after earlier visits more share make (spec.was_done done mid own does (spec.has_row manifest puts reports is ok)) stop had =
     and_visit earlier (visit_of n what) from.status from.is_empty before done.fate (had (sym (ap (λ p. p.stop) is) ∙ stop)) (make done mid does) more (ap (λ p. p.status) is) (ap (λ p. p.is_empty) is)
 and_visited h r w e m shared start from told_before before n what result to told after earlier visits more share make (spec.was_done done mid own does (spec.no_row manifest failure s puts t is ok)) stop had =

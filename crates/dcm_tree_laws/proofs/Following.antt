@@ -4,6 +4,7 @@ use Rattle.std.specs.List.{concat}
 use Rattle.std.specs.Io.KnownBytes.{append_known}
 use Rattle.std.proofs.lemmas.List.{append-nil, append_assoc}
 use Rattle.dcm_devices.specs.Writing.{Writer}
+use Rattle.dcm_tree_laws.proofs.CopiedBy.{row_as}
 use Rattle.dcm_walk.specs.Names.{below}
 use Rattle.dcm_walk.specs.Visits.{Named}
 use Rattle.dcm_walk.specs.declared.visitor.Stopped.{Stopped}
@@ -31,13 +32,12 @@ use Rattle.dcm_tree_laws.specs.Rows.{Visit, noted}
 use Rattle.dcm_tree_laws.specs.Shares.{row_of, row_if}
 use Rattle.dcm_tree_laws.specs.Together.{Has, IsRunOf, Visited, in_folder, in_list, OneRun, Runs, no_run, and_run}
 use Rattle.dcm_tree_laws.specs.Told.{EachRun}
-use Rattle.dcm_tree_laws.proofs.Fates.{Works}
+use Rattle.dcm_tree_laws.proofs.Fates.{Works, works_quiet}
 use Rattle.dcm_tree_laws.proofs.Frees.{KeepsAll, keeps_itself, then_keeps}
 use Rattle.dcm_tree_laws.proofs.Lists.{lines_do}
 use Rattle.dcm_tree_laws.proofs.Quiet.{only_quiet, IsClosed, IsSame}
 use Rattle.dcm_tree_laws.proofs.RowsBy.{visit_of, went_out, no_stop, one_more, no_manifest}
-use Rattle.dcm_tree_laws.proofs.Staged.{works_quiet, stop_before, Of, quietly, Known, known, output_is, task_is}
-use Rattle.dcm_tree_laws.proofs.Telling.{row_as}
+use Rattle.dcm_tree_laws.proofs.Staged.{stop_before, Of, quietly, Known, known, output_is, task_is}
 use Rattle.dcm_tree_laws.proofs.Walks.{VisitsDo, walks_do}
 
 -- ---- the last of some names

@@ -18,11 +18,11 @@ pieces_past n all past before after (and_piece mid front rest pieces is t) =
     let x : (more : List Tree) × TakesPieces n all (with_past past before) (with_past more mid) = pieces_past n all past before mid pieces in
     (mid.now ∷ x.0, and_piece (with_past x.0 mid) front rest x.1 is (record { fills = t.fills; names = t.names; notes = notes_past (Some n) x.0 mid after t.notes }))
 
-closes_past : (now : Option Number) (all : List ℕ) (past : List Tree) (before after : FileSystem) → ClosesOutput now all before after → (more : List Tree) × ClosesOutput now all (with_past past before) (with_past more after)
-closes_past (Some n) all past before after c =
+closes_past : (now : Option Number) (all kept : List ℕ) (past : List Tree) (before after : FileSystem) → ClosesOutput now all kept before after → (more : List Tree) × ClosesOutput now all kept (with_past past before) (with_past more after)
+closes_past (Some n) all kept past before after c =
     let x : (more : List Tree) × TakesPieces n all (with_past past before) (with_past more c.last) = pieces_past n all past before c.last c.pieces in
     (c.last.now ∷ x.0, record { last = with_past x.0 c.last; pieces = x.1; fills = c.fills; names = c.names; notes = notes_past None x.0 c.last after c.notes })
-closes_past None all past before after c = (past, ap (with_past past) c)
+closes_past None all kept past before after c = (past, ap (with_past past) c)
 
 moves_past : {I O : Type 0} (h : Host I O) (from to : List ℕ) (past : List Tree) (before after : FileSystem) → MovesWhat h from to before after → (more : List Tree) × MovesWhat h from to (with_past past before) (with_past more after)
 moves_past h from to past before after (a_file m) =
@@ -32,12 +32,12 @@ moves_past h from to past before after (a_folder one is kind stays) = (past, a_f
 
 pub step_past : {I O : Type 0} {h : Host I O} {IsWhole : ℕ → List ℕ → Type 0} {part output : List ℕ} {at : Phase} {before : FileSystem} {then : Phase} {after : FileSystem} (past : List Tree) → Step h IsWhole part output at before then after
     → (more : List Tree) × Step h IsWhole part output at (with_past past before) then (with_past more after)
-step_past {before = before} {after = after} past (folder path rest to m same) =
-    (before.now ∷ past, folder path rest to (record { made = m.made; nothing = m.nothing; kind = m.kind; fresh = m.fresh; puts = m.puts; bytes = m.bytes; notes = notes_past before.written past before after m.notes }) same)
+step_past {before = before} {after = after} past (folder path mode rest to m same) =
+    (before.now ∷ past, folder path mode rest to (record { made = m.made; nothing = m.nothing; kind = m.kind; bits = m.bits; fresh = m.fresh; puts = m.puts; bytes = m.bytes; notes = notes_past before.written past before after m.notes }) same)
 step_past {before = before} {after = after} past (part_made mode rest m is) =
     (before.now ∷ past, part_made mode rest (record { made = m.made; nothing = m.nothing; kind = m.kind; mode_is = m.mode_is; fresh = m.fresh; puts = m.puts; empty = m.empty; notes = notes_past _ past before after m.notes }) is)
-step_past {before = before} {after = after} past (filled mode bytes was c done is) = let x = closes_past before.written bytes past before after c in (x.0, filled mode bytes was x.1 done is)
-step_past {before = before} {after = after} past (not_filled mode bytes was c is) = let x = closes_past before.written bytes past before after c in (x.0, not_filled mode bytes was x.1 is)
+step_past {before = before} {after = after} past (filled mode bytes was c done is) = let x = closes_past before.written bytes bytes past before after c in (x.0, filled mode bytes was x.1 done is)
+step_past {before = before} {after = after} past (not_filled mode bytes kept was c is) = let x = closes_past before.written bytes kept past before after c in (x.0, not_filled mode bytes kept was x.1 is)
 step_past {before = before} {after = after} past (named bytes path was to l same) =
     (before.now ∷ past, named bytes path was to (record { linked = l.linked; was = l.was; nothing = l.nothing; puts = l.puts; bytes = l.bytes; notes = notes_past before.written past before after l.notes }) same)
 step_past {h = h} {part = part} {before = before} {after = after} past (moved bytes path was to nothing m is) = let x = moves_past h part path past before after m in (x.0, moved bytes path was to nothing x.1 is)

@@ -1,6 +1,7 @@
 -- What was there is there after each run, and an output that is free stays so where it is not touched.
 use Rattle.std.proofs.Common.{◌≡◌, ◌∙◌, refl, sym, ap, subst, ℕ, List, [], ◌∷◌, Some, None}
 use Rattle.std.specs.Prelude.{◌≢◌}
+use Rattle.dcm_lemmas.proofs.Options.{one_value}
 use Rattle.dcm_files.specs.declared.folders.Found.{Found}
 use Rattle.dcm_files.specs.declared.folders.FoundKind.TheVariants as kinds
 use Rattle.dcm_walk.specs.Names.{below}
@@ -12,7 +13,6 @@ use Rattle.dcm_tree_laws.specs.Rows.{Visit}
 use Rattle.dcm_tree_laws.specs.Single.{IsAnswered}
 use Rattle.dcm_tree_laws.proofs.Near.{Stays}
 use Rattle.dcm_tree_laws.specs.Together.{IsNoPart, TakesFolder, IsFree, HasBytes, GoesBeside, no_file, same_output, other_output}
-use Rattle.dcm_tree_laws.proofs.Given.{same_found}
 use Rattle.dcm_tree_laws.proofs.Touched.{IsOnWay, Touched, Touches, as_it_was, at_part, at_output, at_folder}
 
 -- ---- what was there is there
@@ -77,7 +77,7 @@ module _ {I O : Type 0} (h : Host I O) (part output relative other : List ℕ) (
   folder_stays folder behind cut (at_output named e) takes = absurd (x.way_no_output folder behind cut named e)
   folder_stays folder behind cut (at_folder f way is kind) takes = record {
     text = takes.text;
-    folder_is = λ g at. ap (λ (k : Found). k.kind) (same_found (at_path h u (below output folder)) g f at is) ∙ kind;
+    folder_is = λ g at. ap (λ (k : Found). k.kind) (one_value (at_path h u (below output folder)) g f at is) ∙ kind;
   }
 
   pub free_stays : Touches h part output other IsNamed t u → IsFree h output relative t → IsFree h output relative u

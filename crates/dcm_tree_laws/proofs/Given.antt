@@ -2,6 +2,8 @@
 use Rattle.std.proofs.Common.{◌≡◌, ◌∙◌, refl, sym, ap, subst, inl, inr, ◌⊎◌, ℕ, ◌+◌, ◌<◌, List, length, Bool, true, false, Option, Some, None, Ok, Err, arith}
 use Rattle.std.specs.Prelude.{◌≢◌}
 use Rattle.std.specs.Str.{IsUtf8}
+use Rattle.dcm_lemmas.proofs.Options.{none_or_some, one_value}
+use Rattle.dcm_lemmas.proofs.Truth.{true_false}
 use Rattle.dcm_files.specs.declared.folders.Found.{Found}
 use Rattle.dcm_files.specs.declared.folders.FoundKind.TheVariants.{File, Folder}
 use Rattle.dcm_walk.specs.Names.{below}
@@ -12,13 +14,14 @@ use Rattle.dcm_trees.specs.declared.place.Place.TheVariants as places
 use Rattle.dcm_trees.specs.Fate.{is_written}
 use Rattle.dcm_trees.specs.Instance as instance
 use Rattle.dcm_trees.specs.Instance.{GivesFreeName}
+use Rattle.dcm_trees.specs.Modes.{Modes}
 use Rattle.dcm_trees.specs.Part as spec
 use Rattle.dcm_trees.specs.Part.{RemovesPart, MovesPart, MovesIfFree, GivesSecondName, GivesName, ClearsPart, naming_fate}
 use Rattle.dcm_tree_laws.specs.FileSystem.{FileSystem, Host, Tree, number_of, place_of, may_do, folders_do, HasWay, at_path, MakesLink, MovesWhat, a_file, same_file, a_folder, Removes, SameBytes}
 use Rattle.dcm_tree_laws.specs.Outputs.{HasOutput}
 use Rattle.dcm_tree_laws.proofs.Near.{IsNear, near, Stays}
 use Rattle.dcm_tree_laws.proofs.Looking.{finds, free_nothing}
-use Rattle.dcm_tree_laws.proofs.MadeWay.{FolderAt, folder_stays, way_made}
+use Rattle.dcm_tree_laws.proofs.MadeWay.{FolderAt, folder_stays, way_made, none_apart}
 use Rattle.dcm_tree_laws.proofs.Making.{makes_way}
 use Rattle.dcm_tree_laws.proofs.Naming.{phase_of, gives_second}
 use Rattle.dcm_tree_laws.proofs.Quiet.{are_quiet}
@@ -27,9 +30,6 @@ pub use Rattle.dcm_tree_laws.proofs.WholePart.{IsReady, Ready, ready, then_steps
 use Rattle.dcm_tree_laws.proofs.WholePart.{stays_since, stays_then}
 
 -- ---- it is there
-
-pub none_some : (o : Option Found) (f : Found) → o ≡ None → o ≡ Some f → ⊥
-none_some o f a b = absurd (cc)
 
 -- an output is there, and nothing was at its path, which is text, at the start
 pub record NewName {I O : Type 0} (h : Host I O) (IsWhole : ℕ → List ℕ → Type 0) (part path : List ℕ) (start now : Tree) : Type 0 where
@@ -45,19 +45,16 @@ pub record NewOutput {I O : Type 0} (h : Host I O) (IsWhole : ℕ → List ℕ �
 pub was_nothing : {I O : Type 0} (h : Host I O) (part output path : List ℕ) (start now : Tree) (was : Option Found) → start.at (place_of h path) ≡ was → Stays h part output start now → place_of h path ≢ place_of h part → at_path h now path ≡ None
     → at_path h start path ≡ None
 was_nothing h part output path start now None is stays apart none = is
-was_nothing h part output path start now (Some f) is stays apart none = absurd (none_some (at_path h now path) f none (stays.there (place_of h path) f apart is))
+was_nothing h part output path start now (Some f) is stays apart none = absurd (none_or_some (at_path h now path) f none (stays.there (place_of h path) f apart is))
 
 new_name : {I O : Type 0} {h : Host I O} {IsWhole : ℕ → List ℕ → Type 0} {part output bytes : List ℕ} {start s : FileSystem} (path : List ℕ) (now : Tree) → IsReady h IsWhole part output bytes start s → IsUtf8 path → at_path h s.now path ≡ None
     → HasOutput h IsWhole part path now → NewName h IsWhole part path start.now now
 new_name {I} {O} {h} {IsWhole} {part} {output} {bytes} {start} {s} path now r text none out = record { out = out; text = text; nothing = was_nothing h part output path start.now s.now (at_path h start.now path) refl (stays_since r) out.apart none }
 
-pub same_found : (o : Option Found) (f g : Found) → o ≡ Some f → o ≡ Some g → f ≡ g
-same_found o f g a b = cc
-
 as_file : {I O : Type 0} (h : Host I O) (IsWhole : ℕ → List ℕ → Type 0) (part path : List ℕ) (t u : Tree) (f : Found) → Ready h IsWhole part t → at_path h t part ≡ Some f → at_path h u path ≡ Some f → SameBytes t u
     → place_of h path ≢ place_of h part → HasOutput h IsWhole part path u
 as_file h IsWhole part path t u f r was there same apart =
-    let e : r.file ≡ f = same_found (at_path h t part) r.file f r.is was in
+    let e : r.file ≡ f = one_value (at_path h t part) r.file f r.is was in
     record {
       file = f;
       is = there;
@@ -68,14 +65,11 @@ as_file h IsWhole part path t u f r was there same apart =
 
 -- ---- it is linked or moved
 
-other_place : (t : Tree) (to part : List ℕ) (f : Found) → t.at to ≡ None → t.at part ≡ Some f → to ≢ part
-other_place t to part f none is e = absurd (cc)
-
 linked_out : {I O : Type 0} {h : Host I O} {IsWhole : ℕ → List ℕ → Type 0} {part output bytes : List ℕ} {start s after : FileSystem} (path : List ℕ) → IsUtf8 path → IsReady h IsWhole part output bytes start s → MakesLink h part path s after
     → NewName h IsWhole part path start.now after.now
 linked_out {I} {O} {h} {IsWhole} {part} {output} {bytes} {start} {s} {after} path text r l =
     new_name path after.now r text l.nothing
-    (as_file h IsWhole part path s.now after.now l.linked (ready r) l.was l.puts.there l.bytes (other_place s.now (place_of h path) (place_of h part) l.linked l.nothing l.was))
+    (as_file h IsWhole part path s.now after.now l.linked (ready r) l.was l.puts.there l.bytes (none_apart s.now (place_of h path) (place_of h part) l.linked l.nothing l.was))
 
 pub is_file : (f : Found) → f.kind ≡ File → f.kind ≡ Folder → ⊥
 is_file f e other = absurd (cc)
@@ -88,10 +82,10 @@ moved_out : {I O : Type 0} {h : Host I O} {IsWhole : ℕ → List ℕ → Type 0
 moved_out {I} {O} {h} {IsWhole} {part} {output} {bytes} {start} {s} {after} path text r nothing (a_file m) =
     new_name path after.now r text (nothing m.way)
     (as_file h IsWhole part path s.now after.now m.moved (ready r) m.was m.there m.bytes (gone_apart after.now (place_of h path) (place_of h part) m.moved m.there m.gone))
-moved_out {I} {O} {h} {IsWhole} {part} {output} {bytes} {start} {s} {after} path text r nothing (same_file one other way from to same e) = absurd (none_some (at_path h s.now path) other (nothing way) to)
+moved_out {I} {O} {h} {IsWhole} {part} {output} {bytes} {start} {s} {after} path text r nothing (same_file one other way from to same e) = absurd (none_or_some (at_path h s.now path) other (nothing way) to)
 moved_out {I} {O} {h} {IsWhole} {part} {output} {bytes} {start} {s} {after} path text r nothing (a_folder one is kind stays) =
     let f : Ready h IsWhole part s.now = ready r in
-    absurd (is_file one (subst (λ (g : Found). g.kind ≡ File) (same_found (at_path h s.now part) f.file one f.is is) f.kind) kind)
+    absurd (is_file one (subst (λ (g : Found). g.kind ≡ File) (one_value (at_path h s.now part) f.file one f.is is) f.kind) kind)
 
 -- ---- how it is named
 
@@ -100,9 +94,6 @@ is_named Linked = true
 is_named Moved = true
 is_named (NotFree place) = false
 is_named Failed = false
-
-true_false : (b : Bool) → b ≡ true → b ≡ false → ⊥
-true_false b e f = absurd (cc)
 
 not_named : {A : Type 0} (naming other : Naming) → naming ≡ other → is_named other ≡ false → is_named naming ≡ true → A
 not_named {A} naming other is not named = absurd (true_false (is_named naming) named (ap is_named is ∙ not))
@@ -127,10 +118,10 @@ second_named path base some r naming (spec.no_text t u is same) named = not_name
 second_named path base some r naming (spec.linked t u call is) named = linked_out path u r call
 second_named {I} {O} {F} path base some r naming (spec.not_linked e tried t u call m) named = if_free_named {I = I} {F = F} path base some u (then_steps r (quiet call)) naming m named
 
-pub name_given : {I O F : Type 0} {h : Host I O} {IsWhole : ℕ → List ℕ → Type 0} {part output bytes : List ℕ} {start s after : FileSystem} (path relative : List ℕ) → path ≡ below output relative → IsReady h IsWhole part output bytes start s → (naming : Naming)
-    → GivesName (may_do {I = I} h) (folders_do {F = F} h) part path (length output + 1) s naming after → is_named naming ≡ true → NewOutput h IsWhole part output path start.now after.now
+pub name_given : {I O F : Type 0} {modes : Modes} {h : Host I O} {IsWhole : ℕ → List ℕ → Type 0} {part output bytes : List ℕ} {start s after : FileSystem} (path relative : List ℕ) → path ≡ below output relative → IsReady h IsWhole part output bytes start s → (naming : Naming)
+    → GivesName (may_do {I = I} h) (folders_do {F = F} h) modes part path (length output + 1) s naming after → is_named naming ≡ true → NewOutput h IsWhole part output path start.now after.now
 name_given path relative is r naming (spec.no_way e m n) named = not_named naming Failed n refl named
-name_given {I} {O} {F} {h} {IsWhole} {part} {output} {bytes} {start} {s} {after} path relative is r naming (spec.on_its_way has_way m g) named =
+name_given {I} {O} {F} {modes} {h} {IsWhole} {part} {output} {bytes} {start} {s} {after} path relative is r naming (spec.on_its_way has_way m g) named =
     let steps : Steps h IsWhole part output (whole bytes) s (whole bytes) has_way = makes_way {F = F} h IsWhole part output (whole bytes) refl path relative is (length output + 1) (omega arith) s (Ok _) has_way m in
     let on_way : IsReady h IsWhole part output bytes start has_way = then_steps r steps in
     let stays : Stays h part output has_way.now after.now =
@@ -140,10 +131,10 @@ name_given {I} {O} {F} {h} {IsWhole} {part} {output} {bytes} {start} {s} {after}
       way = λ folder behind cut inside. folder_stays h part output has_way.now after.now folder stays (way_made {F = F} h IsWhole part output bytes start path relative is s has_way r (Ok _) refl m folder behind cut inside);
     }
 
-pub free_name_given : {I O F : Type 0} {h : Host I O} {IsWhole : ℕ → List ℕ → Type 0} {part output bytes : List ℕ} {start s after : FileSystem} (path relative : List ℕ) → path ≡ below output relative → IsReady h IsWhole part output bytes start s → (naming : Naming)
-    → GivesFreeName (may_do {I = I} h) (folders_do {F = F} h) part path (length output + 1) s naming after → is_named naming ≡ true → NewOutput h IsWhole part output path start.now after.now
+pub free_name_given : {I O F : Type 0} {modes : Modes} {h : Host I O} {IsWhole : ℕ → List ℕ → Type 0} {part output bytes : List ℕ} {start s after : FileSystem} (path relative : List ℕ) → path ≡ below output relative → IsReady h IsWhole part output bytes start s → (naming : Naming)
+    → GivesFreeName (may_do {I = I} h) (folders_do {F = F} h) modes part path (length output + 1) s naming after → is_named naming ≡ true → NewOutput h IsWhole part output path start.now after.now
 free_name_given path relative is r naming (instance.not_free place f nf e) named = not_named naming (NotFree place) e refl named
-free_name_given {I} {O} {F} {h} {IsWhole} {part} {output} {bytes} {start} {s} {after} path relative is r naming (instance.free place looked f nf g) named =
+free_name_given {I} {O} {F} {modes} {h} {IsWhole} {part} {output} {bytes} {start} {s} {after} path relative is r naming (instance.free place looked f nf g) named =
     name_given {I = I} {F = F} path relative is (then_steps r (quiet (finds (folders_do {F = F} h) (are_quiet h) path (length output + 1) s place looked f))) naming g named
 
 -- ---- the part is removed
@@ -206,6 +197,6 @@ written_named Linked fate continues e = refl
 written_named Moved fate continues e = refl
 written_named (NotFree places.There) fate true e = absurd (cc)
 written_named (NotFree places.There) fate false e = absurd (cc)
-written_named (NotFree places.Taken) fate continues e = absurd (cc)
+written_named (NotFree places.Barred) fate continues e = absurd (cc)
 written_named (NotFree places.Free) fate continues e = absurd (cc)
 written_named Failed fate continues e = absurd (cc)

@@ -1,6 +1,7 @@
 -- What an input gave is a front of what it had still to give.
 use Rattle.std.proofs.Common.{◌≡◌, ◌∙◌, refl, sym, ap, subst, ℕ, List, [], ◌∷◌, ◌++◌, Option, Some, None, append_assoc}
 use Rattle.std.specs.Prelude.{unwrap_or}
+use Rattle.std.proofs.lemmas.List.{append-nil}
 use Rattle.dcm_devices.specs.Device.{Gave, no_calls, and_call}
 use Rattle.dcm_devices.specs.Writing.{Writer}
 use Rattle.dcm_cli.specs.Calls.{Reader}
@@ -20,10 +21,6 @@ held_gives h r w tells = record {
   ends = λ before after call. call.1.1 refl;
   tells = tells;
 }
-
-append_nothing : (bytes : List ℕ) → bytes ++ [] ≡ bytes
-append_nothing [] = refl
-append_nothing (b ∷ bs) = ap (λ (rest : List ℕ). b ∷ rest) (append_nothing bs)
 
 -- after calls that each gave some bytes
 gave_front : {I O : Type 0} (h : Host I O) (r : Reader I) (w : Writer O) → GivesAll h r w → (old : I) (bytes : List ℕ) (new : I) → Gave r.gets old bytes new → h.holds old ≡ bytes ++ h.holds new
@@ -46,9 +43,9 @@ then_left h before front given rest how other g is whole allowed = record {
 
 by_last : {I O : Type 0} (h : Host I O) (r : Reader I) (w : Writer O) → GivesAll h r w → (before mid after : I) (front given : List ℕ) (how : How) (call : Option (List ℕ)) → h.holds before ≡ front ++ h.holds mid → r.gets mid call after
     → given ≡ front ++ unwrap_or call [] → how ≡ how_of call → Left h before given how
-by_last h r w all before mid after front given how None whole gets g is = then_left h before front given (h.holds mid) how with_failure (g ∙ append_nothing front) is whole tt
+by_last h r w all before mid after front given how None whole gets g is = then_left h before front given (h.holds mid) how with_failure (g ∙ append-nil front) is whole tt
 by_last h r w all before mid after front given how (Some []) whole gets g is =
-    then_left h before front given (h.holds mid) how to_end (g ∙ append_nothing front) is whole (all.gives mid after [] gets ∙ all.ends mid after gets)
+    then_left h before front given (h.holds mid) how to_end (g ∙ append-nil front) is whole (all.gives mid after [] gets ∙ all.ends mid after gets)
 by_last h r w all before mid after front given how (Some (b ∷ bs)) whole gets g is =
     then_left h before (front ++ (b ∷ bs)) given (h.holds after) how in_part g is
     (whole ∙ ap (λ (rest : List ℕ). front ++ rest) (all.gives mid after (b ∷ bs) gets) ∙ sym (append_assoc front (b ∷ bs) (h.holds after))) tt

@@ -1,8 +1,9 @@
 -- A run that goes on and keeps names has the rows of a run before it again, and leaves all as it was, where all of these stand.
-use Rattle.std.proofs.Common.{◌≡◌, ◌∙◌, refl, sym, ap, subst, ℕ, List, [], ◌∷◌, ◌++◌, Bool, true, false, Option, None, Result, Ok, Err}
+use Rattle.std.proofs.Common.{◌≡◌, ◌∙◌, refl, sym, ap, subst, ℕ, List, [], ◌∷◌, ◌++◌, true, false, Option, None, Result, Ok, Err}
 use Rattle.std.specs.Prelude.{◌≢◌}
 use Rattle.std.specs.Io.KnownBytes.{append_known}
 use Rattle.std.specs.Str.{IsUtf8}
+use Rattle.dcm_lemmas.proofs.Truth.{true_false}
 use Rattle.dcm_devices.specs.Writing.{Writer}
 use Rattle.dcm_files.specs.declared.folders.Links.TheVariants.{Followed}
 use Rattle.dcm_walk.specs.Names.{below}
@@ -54,9 +55,6 @@ use Rattle.dcm_tree_laws.proofs.StillBy.{there_stays, before_all, last_of_all}
 use Rattle.dcm_tree_laws.proofs.Walks.{VisitsDo, walks_do}
 use Rattle.dcm_tree_laws.proofs.Working.{working_also, working_sure, whole_gives}
 use Rattle.dcm_tree_laws.proofs.Works as works
-
-true_false : {A : Type 0} (b : Bool) → b ≡ true → b ≡ false → A
-true_false b e f = absurd (cc)
 
 -- ---- a name
 

@@ -1,6 +1,7 @@
 -- What the rows of a run that keeps names say stands for one after it.
 use Rattle.std.proofs.Common.{◌≡◌, ◌∙◌, refl, sym, ap, subst, ℕ, List, [], Bool, true, false, None, Ok}
 use Rattle.std.specs.Prelude.{◌≢◌}
+use Rattle.dcm_lemmas.proofs.Truth.{true_false}
 use Rattle.dcm_devices.specs.Writing.{Writer}
 use Rattle.dcm_files.specs.declared.folders.Links.TheVariants.{Followed}
 use Rattle.dcm_walk.specs.Names.{below}
@@ -50,9 +51,6 @@ use Rattle.dcm_tree_laws.proofs.Walks.{VisitsDo, walks_do}
 use Rattle.dcm_tree_laws.proofs.Working.{working_also, working_can, whole_gives}
 use Rattle.dcm_tree_laws.proofs.Works as works
 
-true_false : {A : Type 0} (b : Bool) → b ≡ true → b ≡ false → A
-true_false b e f = absurd (cc)
-
 -- ---- a name
 
 -- how the names of a run are done
@@ -100,7 +98,7 @@ output_none fates.There settled not there = absurd (there refl)
 output_none fates.Refused settled not there = refl
 output_none fates.Pixels settled not there = refl
 output_none fates.Unnamed settled not there = refl
-output_none fates.Occupied settled not there = absurd (cc)
+output_none fates.Taken settled not there = absurd (cc)
 output_none fates.LeftOut settled not there = absurd (cc)
 output_none fates.MediaIndex settled not there = absurd (cc)
 output_none fates.Unread settled not there = absurd (cc)

@@ -1,6 +1,7 @@
 -- A file that ends without an output does so again in a run that keeps names, and all is left as it was.
-use Rattle.std.proofs.Common.{◌≡◌, ◌∙◌, refl, sym, ap, subst, ℕ, ◌+◌, List, [], length, Bool, true, false, None, Result, Ok, Err}
+use Rattle.std.proofs.Common.{◌≡◌, ◌∙◌, refl, sym, ap, subst, ℕ, ◌+◌, List, [], length, true, false, None, Result, Ok, Err}
 use Rattle.std.specs.Str.{IsUtf8}
+use Rattle.dcm_lemmas.proofs.Truth.{true_false}
 use Rattle.dcm_devices.specs.Writing.{Writer}
 use Rattle.dcm_files.specs.declared.folders.Links.TheVariants.{Followed}
 use Rattle.dcm_walk.specs.Names.{below}
@@ -39,9 +40,6 @@ use Rattle.dcm_tree_laws.proofs.Sure as sures
 use Rattle.dcm_tree_laws.proofs.Working.{working_also, working_sure, whole_gives, IsOpened, is_opened, not_unopened, job_found, HasDone, job_done, PartMade, part_made}
 use Rattle.dcm_tree_laws.proofs.Works as works
 
-true_false : {A : Type 0} (b : Bool) → b ≡ true → b ≡ false → A
-true_false b e f = absurd (cc)
-
 -- what its bytes end as is one
 fate_again : (task : Task) (bytes : List ℕ) (done : Done) (fate : Fate) → EndsWithout task bytes done → Fated task bytes fate → done ≡ its_own fate
 fate_again task bytes done fate without fated = without.told.is ∙ ap its_own (ap end_fate (one_end task bytes without.told.end fated.end without.told.ends fated.ends) ∙ sym fated.is)
@@ -69,7 +67,7 @@ module _ {I O E : Type 0} (F : Type 0) (h : Host I O) (r : Reader I) (w : Writer
       → h.holds input ≡ held → IsJobOf m.task held job → EndsWithout m.task held done → after.unremoved ≡ false → FillsAndNames (working {F = F} h r w e) job m name path input output from made fate to after → IsFilled done before fate after
   filled job name path mode input output held done from before made fate to after none makes new sound holds of_job without gone (parts.not_done ending was_filled f not told removes is) =
       let d : HasDone job held (h.took f.written) ending = subst (λ (b : List ℕ). HasDone job b (h.took f.written) ending) holds (job_done h r w all job input output made ending was_filled sound new f) in
-      let closes : ClosesOutput made.written (h.took f.written) made was_filled = subst (λ (s : FileSystem). ClosesOutput made.written (h.took f.written) made s) (sym f.releases) f.closes.0 in
+      let closes : ClosesOutput made.written (h.took f.written) (h.took f.written) made was_filled = subst (λ (s : FileSystem). ClosesOutput made.written (h.took f.written) (h.took f.written) made s) (sym f.releases) f.closes.0 in
       record {
         done_is = fate_again m.task held done fate without (by_verdict m.task held (h.took f.written) job fate ending of_job is d);
         same = gone_again (h.took f.written) before was_filled after none (whole_at h m.part mode (h.took f.written) before made was_filled makes closes) gone removes;

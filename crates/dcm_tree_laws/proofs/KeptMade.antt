@@ -1,10 +1,13 @@
 -- What a run that keeps names says of a file is told by its bytes, or its output is there.
 use Rattle.std.proofs.Common.{◌≡◌, ◌∙◌, refl, sym, ap, subst, ℕ, ◌+◌, List, length, Bool, true, false, None, Result, Ok, Err, arith}
-use Rattle.std.specs.Prelude.{◌≢◌, nat_le, if◌then◌else◌, Some}
+use Rattle.std.specs.Prelude.{◌≢◌, nat_le}
 use Rattle.std.specs.Str.{IsUtf8}
+use Rattle.dcm_lemmas.proofs.Choice.{chosen_some}
+use Rattle.dcm_lemmas.proofs.Truth.{true_false}
 use Rattle.dcm_devices.specs.Writing.{Writer}
 use Rattle.dcm_files.specs.declared.folders.FoundKind.TheVariants as kinds
 use Rattle.dcm_files.specs.declared.folders.Links.TheVariants.{Followed}
+use Rattle.dcm_tree_laws.proofs.VisitedBy.{inner_way}
 use Rattle.dcm_walk.specs.Names.{below, PATH_LIMIT}
 use Rattle.dcm_walk.specs.Visits.{Named}
 use Rattle.dcm_words.specs.Words.{Job}
@@ -40,7 +43,7 @@ use Rattle.dcm_tree_laws.proofs.Held.{GivesAll}
 use Rattle.dcm_tree_laws.proofs.Jobs as jobs
 use Rattle.dcm_tree_laws.proofs.Left.{sure_quiet}
 use Rattle.dcm_tree_laws.proofs.Looking.{finds, same_ok}
-use Rattle.dcm_tree_laws.proofs.MadeBy.{MadeAt, made_stays, way_joined, within_it}
+use Rattle.dcm_tree_laws.proofs.MadeBy.{MadeAt, made_stays, within_it}
 use Rattle.dcm_tree_laws.proofs.MadeWay.{kinds_apart}
 use Rattle.dcm_tree_laws.proofs.Naming.{phase_of, gives_name, clears_part}
 use Rattle.dcm_tree_laws.proofs.Filling.{part_is_made, is_filled_as}
@@ -50,9 +53,6 @@ use Rattle.dcm_tree_laws.proofs.WholePart.{IsReady, Ready, ready, then_steps, st
 use Rattle.dcm_tree_laws.proofs.Working.{working_also, working_sure, working_can, IsOpened, is_opened, not_unopened, job_found, HasDone, job_done}
 use Rattle.dcm_tree_laws.proofs.Works as works
 use Rattle.dcm_tree_laws.proofs.Written.{IsIdle, more, is_ready, not_ok}
-
-true_false : {A : Type 0} (b : Bool) → b ≡ true → b ≡ false → A
-true_false b e f = absurd (cc)
 
 -- any file
 abbrev pub Any : ℕ → List ℕ → Type 0
@@ -71,15 +71,11 @@ tells_so : {E : Type 0} (e : Writer E) (name : List ℕ) (cause : NoPart) (from 
 tells_so e name cause from result to fate (parts.ends_run p c t is) ok = absurd (not_ok result p fate is ok)
 tells_so e name cause from result to fate (parts.told c t is) ok = same_ok result fates.Unwritten fate is ok
 
-fits_if : (b : Bool) (path other : List ℕ) → (if b then Some path else None) ≡ Some other → b ≡ true
-fits_if true path other e = refl
-fits_if false path other e = absurd (cc)
-
 -- a file that is there was met where the run goes on
 met_fate : {A : Type 0} (place : Place) (continues : Bool) (fate : Fate) → fate ≡ place_fate place continues → (fate ≡ fates.There → place ≡ spots.There → A) → (is_settled fate ≡ false → A) → A
 met_fate spots.There true fate is met or = met is refl
 met_fate spots.There false fate is met or = or (ap is_settled is)
-met_fate spots.Taken continues fate is met or = or (ap is_settled is)
+met_fate spots.Barred continues fate is met or = or (ap is_settled is)
 met_fate spots.Free continues fate is met or = or (ap is_settled is)
 
 module _ {I O E : Type 0} (F : Type 0) (h : Host I O) (r : Reader I) (w : Writer O) (e : Writer E) (all : GivesAll h (as_whole h r) w) (m : Manner) (of_output : IsNear m.output m.part) where
@@ -95,11 +91,11 @@ module _ {I O E : Type 0} (F : Type 0) (h : Host I O) (r : Reader I) (w : Writer
     text = subst IsUtf8 is there.file.text;
     out = record { file = there.file.found; is = ap (λ (p : List ℕ). at_path h now.now p) (sym is) ∙ there.file.is; kind = there.file.kind_is; whole = tt; apart = apart };
     way = λ folder behind cut.
-        let at : IsAt h kinds.Folder now.now (below m.output folder) = there.way (below m.output folder) behind (is ∙ way_joined m.output relative folder behind cut) (omega (arith, within_it m.output folder)) in
+        let at : IsAt h kinds.Folder now.now (below m.output folder) = there.way (below m.output folder) behind (is ∙ inner_way m.output relative folder behind cut) (omega (arith, within_it m.output folder)) in
         record { at = at; apart = apart_by now.now (place_of h (below m.output folder)) (place_of h m.part) at.found none at.is };
   }
 
-  met_name : (path : List ℕ) (s : FileSystem) (naming : Naming) (named : FileSystem) → naming ≡ NotFree spots.There → GivesName (working_may h r w (may_do h)) (Works {F = F} h) m.part path (length m.output + 1) s naming named → FileThere F h path (length m.output + 1) named
+  met_name : (path : List ℕ) (s : FileSystem) (naming : Naming) (named : FileSystem) → naming ≡ NotFree spots.There → GivesName (working_may h r w (may_do h)) (Works {F = F} h) m.modes m.part path (length m.output + 1) s naming named → FileThere F h path (length m.output + 1) named
   met_name path s naming named there (parts.no_way x makes is) = absurd (failed naming spots.There there is)
     where
       failed : (n : Naming) (place : Place) → n ≡ NotFree place → n ≡ Failed → ⊥
@@ -123,7 +119,7 @@ module _ {I O E : Type 0} (F : Type 0) (h : Host I O) (r : Reader I) (w : Writer
         text = subst IsUtf8 is file.file.text;
         out = record { file = file.file.found; is = ap (λ (p : List ℕ). at_path h x.named.now p) (sym is) ∙ file.file.is; kind = file.file.kind_is; whole = tt; apart = apart };
         way = λ folder behind cut.
-            let at : IsAt h kinds.Folder x.named.now (below m.output folder) = file.way (below m.output folder) behind (is ∙ way_joined m.output relative folder behind cut) (omega (arith, within_it m.output folder)) in
+            let at : IsAt h kinds.Folder x.named.now (below m.output folder) = file.way (below m.output folder) behind (is ∙ inner_way m.output relative folder behind cut) (omega (arith, within_it m.output folder)) in
             record { at = at; apart = kinds_apart x.named.now (place_of h (below m.output folder)) (place_of h m.part) at.found part.file at.is part.is at.kind_is part.kind };
       } in
       let gone : Steps h IsHeld m.part m.output (whole held) x.named idle after =
@@ -156,7 +152,7 @@ module _ {I O E : Type 0} (F : Type 0) (h : Host I O) (r : Reader I) (w : Writer
       let is_whole : IsReady h IsHeld m.part m.output (h.took f.written) opened was_filled =
       is_ready (h.took f.written)
       (more (more began (part_is_made {F = F} h IsHeld m.part m.output mode opened output made (sures.makes_part (Works {F = F} h) (folders_do {F = F} h) (working_can {F = F} h) m.part mode opened (Ok output) made makes)))
-      (is_filled_as h IsHeld (as_whole h r) w m.part m.output (h.masked mode) job input output made ending was_filled (works.fills (working_may h r w (may_do h)) (may_do h) (working_also h r w) (as_whole h r) w job input output made ending was_filled f) refl)) in
+      (is_filled_as h IsHeld (as_whole h r) w m.part m.output (h.masked mode) job input output made ending was_filled (works.fills (working_may h r w (may_do h)) (may_do h) (working_also h r w) (as_whole h r) w job input output made ending was_filled f) written refl)) in
       named_how job name relative path bytes (h.took f.written) ending told opened was_filled fate to after is fits of_job d is_whole names apart names.naming refl
 
   ready_how : (job : Job) (n : Named) (mode : ℕ) (path : List ℕ) (from : E) (s : FileSystem) (result : Result Fate RunStop) (to : E) (after : FileSystem) (fate : Fate) → path ≡ below m.output n.relative → nat_le (length (below m.output n.relative)) PATH_LIMIT ≡ true → s.written ≡ None → IsUtf8 n.path
@@ -197,7 +193,7 @@ module _ {I O E : Type 0} (F : Type 0) (h : Host I O) (r : Reader I) (w : Writer
   kept_how n mode from s (Ok fate) result to after done none nothing text f (files.placed path at does) is ok apart =
       let same : done.fate ≡ fate = ap (λ (d : Done). d.fate) (same_ok result (record { fate = fate; instance = None }) done is ok) in
       subst (λ (x : Fate). How h m n.relative (s.now.bytes (number_of f.file)) x after.now) (sym same)
-      (placed_how n mode path from s (Ok fate) to after fate (path_is m.output n.relative path at) (fits_if (nat_le (length (below m.output n.relative)) PATH_LIMIT) (below m.output n.relative) path at) none nothing text f does refl (subst (Apart n.relative) same apart))
+      (placed_how n mode path from s (Ok fate) to after fate (path_is m.output n.relative path at) (chosen_some (nat_le (length (below m.output n.relative)) PATH_LIMIT) (below m.output n.relative) path at) none nothing text f does refl (subst (Apart n.relative) same apart))
   kept_how n mode from s (Err p) result to after done none nothing text f does is ok apart = absurd (no_done result p done is ok)
     where
       no_done : (x : Result Done RunStop) (p : RunStop) (done : Done) → x ≡ Err p → x ≡ Ok done → ⊥

@@ -2,6 +2,7 @@
 use Rattle.std.proofs.Common.{◌≡◌, ◌∙◌, sym, ap, subst, ℕ, List, [], ◌∷◌, ◌++◌, true, false}
 use Rattle.dcm_devices.specs.Writing.{Writer}
 use Rattle.dcm_cli.specs.Calls.{Reader}
+use Rattle.dcm_sinks.proofs.DecodedDumps.PlainTexts.{both_lines}
 use Rattle.dcm_trees.specs.declared.progress.Shared.{Shared}
 use Rattle.dcm_trees.specs.Fate.{word}
 use Rattle.dcm_trees.specs.Share.{is_of}
@@ -16,7 +17,7 @@ use Rattle.dcm_tree_laws.specs.Laws.{part_path}
 use Rattle.dcm_tree_laws.specs.OneRow.{RowsOf, no_visit, of_another, and_row}
 use Rattle.dcm_tree_laws.specs.Rows.{Visit}
 use Rattle.dcm_tree_laws.specs.Twice.{OfRows}
-use Rattle.dcm_tree_laws.proofs.CopiedBy.{of_share, last_same, no_last, row_as, both_rows}
+use Rattle.dcm_tree_laws.proofs.CopiedBy.{of_share, last_same, no_last, row_as}
 use Rattle.dcm_tree_laws.proofs.StillBy.{before_all, last_of_all}
 use Rattle.dcm_tree_laws.proofs.TwiceBy.{one_more, of_other_share}
 
@@ -66,7 +67,7 @@ module _ {I O : Type 0} (h : Host I O) (task : Task) (own output : List ℕ) (st
       let its : WasKeptAgain h task output now v done_there = subst (λ (x : Visit). WasKeptAgain h task output now x done_there) one.1 so_there in
       is_there
       ∙ ap (λ (x : Visit). rest_there ++ row x.named.name (output_of x.named done_there) (word done_there.fate)) one.1
-      ∙ both_rows rest_there (rows_again rows) (row v.named.name (output_of v.named done_there) (word done_there.fate)) (row v.named.name (output_of v.named (again done)) (word (again done).fate))
+      ∙ both_lines rest_there (rows_again rows) (row v.named.name (output_of v.named done_there) (word done_there.fate)) (row v.named.name (output_of v.named (again done)) (word (again done).fate))
       (rows_same earlier before rest rest_there rows rows_there one.0 settled.1 (before_all (FileWasThere h start) earlier v each))
       (row_as v done_there (again done) (its done (so (last_of_all (FileWasThere h start) earlier v each) settled.0)))
 

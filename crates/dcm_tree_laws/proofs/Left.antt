@@ -1,6 +1,7 @@
 -- A name whose output is there is left as it is.
 use Rattle.std.proofs.Common.{◌≡◌, ◌∙◌, refl, sym, ap, subst, ℕ, ◌+◌, ◌-◌, ◌≤◌, List, [], length, take, drop, Bool, true, false, Option, Some, None, Result, Ok, arith, length-append}
 use Rattle.std.specs.Prelude.{nat_le, codes, if◌then◌else◌}
+use Rattle.dcm_lemmas.proofs.Truth.{true_false}
 use Rattle.dcm_devices.specs.Writing.{Writer}
 use Rattle.dcm_files.specs.declared.folders.Found.{Found}
 use Rattle.dcm_files.specs.declared.folders.FoundKind.{FoundKind}
@@ -35,6 +36,7 @@ use Rattle.dcm_tree_laws.proofs.Ways.{on_its_way, within_output, way_cut}
 pub sure_quiet : {I O F : Type 0} (h : Host I O) → Quiet (sure (folders_do {F = F} h))
 sure_quiet {I} {O} {F} h = record {
   finds = λ before path links r after call. (are_quiet {F = F} h).finds before path links r after call.0;
+  modes = λ before folder name r after call. (are_quiet {F = F} h).modes before folder name r after call.0;
   opens = λ before path r after call. (are_quiet {F = F} h).opens before path r after call;
   names = λ before folder r left after call. (are_quiet {F = F} h).names before folder r left after call;
   closes = λ before folder after call. (are_quiet {F = F} h).closes before folder after call;
@@ -136,9 +138,6 @@ placed_left {I} {O} {F} h r w e m n mode path from before result to after goes i
     }
 placed_left {I} {O} {F} h r w e m n mode path from before result to after goes is there (files.free p looked f nf does) =
     no_free p (finds_there {F = F} h m.output n.relative path before p looked is there f) nf
-
-true_false : {A : Type 0} (b : Bool) → b ≡ true → b ≡ false → A
-true_false b e f = absurd (cc)
 
 file_left : {I O F E : Type 0} (h : Host I O) (r : Reader I) (w : Writer O) (e : Writer E) (m : Manner) (n : Named) (mode : ℕ) (from : E) (before : FileSystem) (result : Result Done RunStop) (to : E) (after : FileSystem) → m.continues ≡ true → m.keeps_names ≡ true
     → is_media_index n.relative ≡ false → IsThere h m.output n.relative before.now → DoesFile (over_sure {F = F} h r w e) m n mode from before result to after → IsLeft F h r w e m n mode from before result to after

@@ -38,10 +38,12 @@ pub mod StillBy
 pub mod MadeBy
 pub mod TwiceBy
 pub mod SharesBy
+pub mod Closing
 pub mod Cleared
 pub mod ClearedBy
 pub mod PartsBy
 pub mod PartOfRuns
+pub mod Clearing
 pub mod CourseBy
 pub mod Held
 pub mod Answered

@@ -1,6 +1,7 @@
 -- A run over a list visits its lines, in order.
 use Rattle.std.proofs.Common.{◌≡◌, ◌∙◌, refl, sym, ap, inl, inr, ◌⊎◌, ℕ, List, [], ◌∷◌, ◌++◌, Bool, true, false, Some, None, Result, Ok, Err, append_assoc}
 use Rattle.std.specs.Prelude.{take}
+use Rattle.std.proofs.lemmas.List.{append-nil}
 use Rattle.dcm_devices.specs.Device.{Gave, no_calls, and_call}
 use Rattle.dcm_devices.specs.Writing.{Writer}
 use Rattle.dcm_files.specs.Folders.{FoldersDo}
@@ -25,10 +26,6 @@ use Rattle.dcm_tree_laws.specs.Single.{as_held}
 use Rattle.dcm_tree_laws.proofs.StopsBy.{SaysWhy, work_says}
 
 -- ---- lists
-
-append_nothing : (bytes : List ℕ) → bytes ++ [] ≡ bytes
-append_nothing [] = refl
-append_nothing (b ∷ bs) = ap (λ (rest : List ℕ). b ∷ rest) (append_nothing bs)
 
 visits_append : (a b : List Visit) → visited_names (a ++ b) ≡ visited_names a ++ visited_names b
 visits_append [] b = refl
@@ -61,7 +58,7 @@ module _ {I O : Type 0} (h : Host I O) (r : Reader I) where
   if_over : (is_over : Bool) (at left : I) (given : List ℕ) (names : List (List ℕ)) → (is_over ≡ true → h.holds at ≡ []) → (ends : AnswersEnd (as_held h r).gets is_over at left given names)
       → ((is_over ≡ false) × Calls (as_held h r).gets true at ends.more left) ⊎ ((is_over ≡ true) × (ends.more ≡ []) × (left ≡ at)) → h.holds at ≡ ends.more
   if_over is_over at left given names none ends (inl (goes, calls)) =
-      called true at ends.more left calls ∙ ap (λ (rest : List ℕ). ends.more ++ rest) (at_end true at ends.more left calls refl) ∙ append_nothing ends.more
+      called true at ends.more left calls ∙ ap (λ (rest : List ℕ). ends.more ++ rest) (at_end true at ends.more left calls refl) ∙ append-nil ends.more
   if_over is_over at left given names none ends (inr (over, nothing, same)) = none over ∙ sym nothing
 
   -- nothing is left of a list that is read to its end

@@ -1,12 +1,15 @@
 -- What only looks leaves a file system as it was.
-use Rattle.std.proofs.Common.{◌≡◌, ◌∙◌, refl, sym, ap, subst, ℕ, ◌+◌, ◌≤◌, ◌<◌, List, take, drop, Bool, true, Option, Some, None, Result, Ok, Err, arith}
+use Rattle.std.proofs.Common.{◌≡◌, ◌∙◌, refl, sym, ap, subst, ℕ, ◌+◌, ◌≤◌, ◌<◌, List, take, drop, Bool, true, false, Option, Some, None, Result, Ok, Err, arith}
+use Rattle.std.specs.declared.io.Error.{Error}
 use Rattle.dcm_files.specs.Folders.{FoldersDo}
 use Rattle.dcm_files.specs.declared.folders.Found.{Found}
 use Rattle.dcm_files.specs.declared.folders.FoundKind.{FoundKind}
 use Rattle.dcm_files.specs.declared.folders.FoundKind.TheVariants as kinds
 use Rattle.dcm_files.specs.declared.folders.Links.TheVariants.{Kept}
+use Rattle.dcm_trees.specs.declared.modes.NoMode.{NoMode}
 use Rattle.dcm_trees.specs.declared.place.Place.{Place}
 use Rattle.dcm_trees.specs.declared.place.Place.TheVariants as places
+use Rattle.dcm_trees.specs.Modes.{Modes, FindsMode, usual, like, not_seen}
 use Rattle.dcm_trees.specs.Place.{Looks, no_text, looked, not_looked, AreFolders, none_yet, and_folder, LooksAlong, to_its_end, ended, Finds, missing, blocked, at_its_end, FindsFolder, by_looking}
 use Rattle.dcm_trees.specs.Place.{end_of_way, end_of_found, end_at, place_of, place_at, is_free}
 use Rattle.dcm_tree_laws.specs.FileSystem.{FileSystem, Host, folders_do, HasWay, at_path}
@@ -34,6 +37,22 @@ finds d quiet path base before place after (at_its_end seen mid l looked_at is) 
 pub finds_folder : {S O F : Type 0} (d : FoldersDo S O F) → Quiet d → (path : List ℕ) (before : S) (is_there : Bool) (after : S) → FindsFolder d path before is_there after → after ≡ before
 finds_folder d quiet path before is_there after (by_looking seen l is) = looks d quiet path before seen after l
 
+-- the mode of a new folder is looked for
+pub finds_mode : {S O F : Type 0} (d : FoldersDo S O F) → Quiet d → {modes : Modes} {name : List ℕ} (before : S) (r : Result ℕ NoMode) (after : S) → FindsMode d modes name before r after → after ≡ before
+finds_mode d quiet before r after (usual none is same) = same
+finds_mode d quiet before r after (like folder mode some call is) = quiet.modes before folder _ (Ok mode) after call
+finds_mode d quiet before r after (not_seen folder e n some call is) = quiet.modes before folder _ (Err e) after call
+
+-- behind a look at that folder
+pub seeks_mode : {S O F : Type 0} (d : FoldersDo S O F) → Quiet d → {modes : Modes} {name : List ℕ} (path : List ℕ) (before mid : S) (r : Result ℕ NoMode) (after : S) → FindsFolder d path before false mid → FindsMode d modes name mid r after → after ≡ before
+seeks_mode d quiet path before mid r after f m = finds_mode d quiet mid r after m ∙ finds_folder d quiet path before false mid f
+
+-- it is found where the system always tells it
+pub always_mode : {S O F : Type 0} (d : FoldersDo S O F) → ((before : S) (folder name : List ℕ) (e : Error) (after : S) → d.modes before folder name (Err e) after → ⊥) → {modes : Modes} {name : List ℕ} (before : S) (n : NoMode) (after : S) → FindsMode d modes name before (Err n) after → ⊥
+always_mode d never before n after (usual none is same) = absurd (cc)
+always_mode d never before n after (like folder mode some call is) = absurd (cc)
+always_mode d never before n after (not_seen folder e other some call is) = never before folder _ e after call
+
 -- ---- what is seen
 
 pub same_ok : {A E : Type 0} (r : Result A E) (a b : A) → r ≡ Ok a → r ≡ Ok b → b ≡ a
@@ -54,7 +73,7 @@ is_missing (Ok None) e = refl
 is_missing (Ok (Some f)) e = absurd (kind_ends f.kind e)
 is_missing (Err u) e = absurd (cc)
 
-kind_taken : (kind : FoundKind) → is_free (place_at kind) ≡ true → ⊥
+pub kind_taken : (kind : FoundKind) → is_free (place_at kind) ≡ true → ⊥
 kind_taken kinds.Folder e = absurd (cc)
 kind_taken kinds.File e = absurd (cc)
 kind_taken kinds.Other e = absurd (cc)
@@ -82,12 +101,12 @@ no_gap {I} {O} {F} h path base before end_is after some (ended at size seen end 
     way (take (at + size) path) (drop (at + size + 1) path) (on_its_way path at size slash) (not_empty path at size (omega (arith, some, least)) slash)
     (nothing_there {F = F} h (take (at + size) path) before mid seen after (is_missing seen (e ∙ ap Some (sym is) ∙ sym gap)) (folders (folders_do {F = F} h) (are_quiet h) path base before at mid f) l)
 
-not_taken : (place other : Place) → is_free place ≡ true → place ≡ other → is_free other ≡ true
-not_taken place other free is = subst (λ (p : Place). is_free p ≡ true) is free
+not_barred : (place other : Place) → is_free place ≡ true → place ≡ other → is_free other ≡ true
+not_barred place other free is = subst (λ (p : Place). is_free p ≡ true) is free
 
 pub free_nothing : {I O F : Type 0} (h : Host I O) (path : List ℕ) (base : ℕ) (before : FileSystem) (place : Place) (after : FileSystem) → 0 < base → Finds (folders_do {F = F} h) path base before place after → is_free place ≡ true
     → HasWay h before.now path → at_path h before.now path ≡ None
 free_nothing {I} {O} {F} h path base before place after some (missing l is) free way = absurd (no_gap {F = F} h path base before _ after some l refl way)
-free_nothing h path base before place after some (blocked l is) free way = let other : is_free places.Taken ≡ true = not_taken place places.Taken free is in absurd (cc)
+free_nothing h path base before place after some (blocked l is) free way = let other : is_free places.Barred ≡ true = not_barred place places.Barred free is in absurd (cc)
 free_nothing {I} {O} {F} h path base before place after some (at_its_end seen mid l looked_at is) free way =
-    nothing_there {F = F} h path before mid seen after (is_nothing seen (not_taken place (place_of seen) free is)) (along (folders_do {F = F} h) (are_quiet h) path base before _ mid l) looked_at
+    nothing_there {F = F} h path before mid seen after (is_nothing seen (not_barred place (place_of seen) free is)) (along (folders_do {F = F} h) (are_quiet h) path base before _ mid l) looked_at

@@ -1,8 +1,11 @@
 -- What a run wrote by its names is there for one that goes on.
-use Rattle.std.proofs.Common.{◌≡◌, ◌∙◌, refl, sym, ap, subst, ℕ, ◌<◌, List, [], ◌++◌, length, Bool, true, false, Some, None, Result, Ok, Err, arith, append_assoc, length-append}
-use Rattle.std.specs.Prelude.{nat_le, codes, if◌then◌else◌}
+use Rattle.std.proofs.Common.{◌≡◌, ◌∙◌, refl, sym, ap, subst, ℕ, ◌<◌, List, [], ◌++◌, length, true, false, None, Result, Ok, Err, arith, length-append}
+use Rattle.std.specs.Prelude.{nat_le, codes}
 use Rattle.std.specs.Str.{IsUtf8}
+use Rattle.dcm_lemmas.proofs.Choice.{chosen_some}
 use Rattle.dcm_devices.specs.Writing.{Writer}
+use Rattle.dcm_tree_laws.proofs.Touched.{no_done}
+use Rattle.dcm_tree_laws.proofs.VisitedBy.{inner_way}
 use Rattle.dcm_walk.specs.Names.{below, PATH_LIMIT}
 use Rattle.dcm_walk.specs.Visits.{Named}
 use Rattle.dcm_walk.specs.declared.visitor.What.{What}
@@ -37,7 +40,8 @@ use Rattle.dcm_tree_laws.proofs.RowsBy.{HasRows, visit_rows, rows_kept, no_rows,
 use Rattle.dcm_tree_laws.proofs.Runs.{visit_name}
 use Rattle.dcm_tree_laws.proofs.Steps.{no_step}
 use Rattle.dcm_tree_laws.proofs.Walks.{VisitsDo, walks_do}
-use Rattle.dcm_tree_laws.proofs.Written.{always_gives, not_written, what_not}
+use Rattle.dcm_tree_laws.proofs.Filling.{always_gives}
+use Rattle.dcm_tree_laws.proofs.Written.{not_written, what_not}
 use Rattle.dcm_tree_laws.proofs.WrittenBy.{name_out}
 
 -- ---- an output with its way
@@ -63,10 +67,6 @@ made_there h IsWhole part output relative t made = record {
   way = λ folder behind is. (made.way folder behind is).at;
 }
 
-pub way_joined : (output relative folder behind : List ℕ) → relative ≡ below folder behind → below output relative ≡ below (below output folder) behind
-way_joined output relative folder behind is =
-    ap (below output) is ∙ sym (append_assoc (output ++ codes "/") (folder ++ codes "/") behind) ∙ ap (λ (x : List ℕ). x ++ behind) (sym (append_assoc (output ++ codes "/") folder (codes "/")))
-
 pub within_it : (output folder : List ℕ) → length output < length (below output folder)
 within_it output folder = omega (arith, length-append (output ++ codes "/") folder, length-append output (codes "/"))
 
@@ -76,7 +76,7 @@ new_made h IsWhole part output relative t u fits new = record {
   fits = fits;
   text = new.name.text;
   out = new.name.out;
-  way = λ folder behind is. new.way (below output folder) behind (way_joined output relative folder behind is) (within_it output folder);
+  way = λ folder behind is. new.way (below output folder) behind (inner_way output relative folder behind is) (within_it output folder);
 }
 
 -- ---- a name that was written by itself
@@ -85,19 +85,12 @@ pub record ByName (m : Manner) (n : Named) (done : Done) : Type 0 where
   pub its : done.instance ≡ None
   fits : nat_le (length (below m.output n.relative)) PATH_LIMIT ≡ true
 
-fits_if : (b : Bool) (path other : List ℕ) → (if b then Some path else None) ≡ Some other → b ≡ true
-fits_if true path other e = refl
-fits_if false path other e = absurd (cc)
-
 of_fate : {A : Type 0} (result : Result Done RunStop) (fate : Fate) (done : Done) → result ≡ under_its_name (Ok fate) → result ≡ Ok done → is_written fate ≡ false → is_written done.fate ≡ true → A
 of_fate result fate done is ok not written = not_written done.fate fate (ap (λ (d : Done). d.fate) (same_ok result (record { fate = fate; instance = None }) done is ok)) not written
 
-no_ok : (result : Result Done RunStop) (p : RunStop) (done : Done) → result ≡ Err p → result ≡ Ok done → ⊥
-no_ok result p done a b = absurd (cc)
-
 pub its_own : (became : Result Fate RunStop) (result : Result Done RunStop) (done : Done) → result ≡ under_its_name became → result ≡ Ok done → done.instance ≡ None
 its_own (Ok fate) result done is ok = ap (λ (d : Done). d.instance) (same_ok result (record { fate = fate; instance = None }) done is ok)
-its_own (Err p) result done is ok = absurd (no_ok result p done is ok)
+its_own (Err p) result done is ok = absurd (no_done result p done is ok)
 
 file_by : {I O F E : Type 0} (h : Host I O) (r : Reader I) (w : Writer O) (e : Writer E) (m : Manner) (n : Named) (mode : ℕ) (from : E) (before : FileSystem) (result : Result Done RunStop) (to : E) (after : FileSystem) (done : Done) → m.keeps_names ≡ true
     → DoesFile (over {F = F} h r w e) m n mode from before result to after → result ≡ Ok done → is_written done.fate ≡ true → ByName m n done
@@ -106,7 +99,7 @@ file_by h r w e m n mode from before result to after done keeps (files.by_instan
 file_by h r w e m n mode from before result to after done keeps (files.keeps_name became index kept (files.too_long none told b same) is) ok written =
     of_fate result fates.Unwritten done (is ∙ ap under_its_name b) ok refl written
 file_by h r w e m n mode from before result to after done keeps (files.keeps_name became index kept (files.placed path at does) is) ok written =
-    record { its = its_own became result done is ok; fits = fits_if (nat_le (length (below m.output n.relative)) PATH_LIMIT) (below m.output n.relative) path at }
+    record { its = its_own became result done is ok; fits = chosen_some (nat_le (length (below m.output n.relative)) PATH_LIMIT) (below m.output n.relative) path at }
 
 pub name_by : {I O F E : Type 0} (h : Host I O) (r : Reader I) (w : Writer O) (e : Writer E) (m : Manner) (n : Named) (what : What) (from : E) (before : FileSystem) (result : Result Done RunStop) (to : E) (after : FileSystem) (done : Done) → m.keeps_names ≡ true
     → DoesName (over {F = F} h r w e) m n what from before result to after → result ≡ Ok done → is_written done.fate ≡ true → ByName m n done

@@ -8,18 +8,22 @@ use Rattle.std.proofs.Math.Dec.{eqb}
 use Rattle.std.proofs.lemmas.Bool.{cases_lt}
 use Rattle.std.proofs.lemmas.Bool.Decides.{eqb_tells}
 use Rattle.std.proofs.lemmas.List.{get_or-drop, length-append, length-drop, append_assoc}
+use Rattle.dcm_lemmas.proofs.Options.{one_value}
+use Rattle.dcm_lemmas.proofs.Truth.{true_false}
+use Rattle.dcm_files.specs.Folders.{FoldersDo}
 use Rattle.dcm_files.specs.declared.folders.Found.{Found}
 use Rattle.dcm_files.specs.declared.folders.FoundKind.{FoundKind}
 use Rattle.dcm_files.specs.declared.folders.FoundKind.TheVariants as kinds
 use Rattle.dcm_walk.specs.List.{IsSlash}
 use Rattle.dcm_walk.specs.Names.{below, is_slash}
 use Rattle.dcm_trees.specs.declared.place.NotMade.{NotMade}
+use Rattle.dcm_trees.specs.Modes.{Modes}
 use Rattle.dcm_trees.specs.Place as places
-use Rattle.dcm_trees.specs.Place.{HasFolder, FindsFolder, AreMade, MakesWay, end_of_way, end_at}
+use Rattle.dcm_trees.specs.Place.{MakesNew, HasFolder, FindsFolder, AreMade, MakesWay, end_of_way, end_at}
 use Rattle.dcm_tree_laws.specs.Again.{IsAt}
 use Rattle.dcm_tree_laws.specs.FileSystem.{FileSystem, Host, Tree, place_of, at_path, folders_do}
 use Rattle.dcm_tree_laws.proofs.Near.{IsNear, Stays}
-use Rattle.dcm_tree_laws.proofs.Looking.{looks, seen_is}
+use Rattle.dcm_tree_laws.proofs.Looking.{looks, seen_is, seeks_mode}
 use Rattle.dcm_tree_laws.proofs.Making.{has_folder, are_made, beyond as far_made}
 use Rattle.dcm_tree_laws.proofs.Quiet.{are_quiet}
 use Rattle.dcm_tree_laws.proofs.Steps.{Steps, whole}
@@ -39,17 +43,14 @@ folder_stays h part output t u path stays f = record {
   apart = f.apart;
 }
 
-none_apart : (t : Tree) (place part : List ℕ) (f : Found) → t.at place ≡ None → t.at part ≡ Some f → place ≢ part
+pub none_apart : (t : Tree) (place part : List ℕ) (f : Found) → t.at place ≡ None → t.at part ≡ Some f → place ≢ part
 none_apart t place part f none is e = absurd (cc)
 
 no_kind : kinds.Folder ≡ kinds.File → ⊥
 no_kind e = absurd (cc)
 
-same_found : (o : Option Found) (f g : Found) → o ≡ Some f → o ≡ Some g → f ≡ g
-same_found o f g a b = cc
-
 pub kinds_apart : (t : Tree) (place part : List ℕ) (f g : Found) → t.at place ≡ Some f → t.at part ≡ Some g → f.kind ≡ kinds.Folder → g.kind ≡ kinds.File → place ≢ part
-kinds_apart t place part f g is other folder file e = no_kind (sym folder ∙ ap (λ (x : Found). x.kind) (same_found (t.at part) f g (ap t.at (sym e) ∙ is) other) ∙ file)
+kinds_apart t place part f g is other folder file e = no_kind (sym folder ∙ ap (λ (x : Found). x.kind) (one_value (t.at part) f g (ap t.at (sym e) ∙ is) other) ∙ file)
 
 -- what was seen
 pub record SeenFolder {U : Type 0} (seen : Result (Option Found) U) : Type 0 where
@@ -66,9 +67,6 @@ pub seen_folder : (seen : Result (Option Found) _) → is_none (end_of_way seen)
 seen_folder (Ok None) e = absurd (cc)
 seen_folder (Ok (Some f)) e = record { found = f; is = refl; kind_is = goes_along f.kind e }
 seen_folder (Err u) e = absurd (cc)
-
-true_false : {A : Type 0} (b : Bool) → b ≡ true → b ≡ false → A
-true_false b e f = absurd (cc)
 
 -- a slash at a place or behind it, and not behind the first one, is that
 slash_at : (path : List ℕ) (from p : ℕ) → from ≤ p → is_slash (slice_index path p) ≡ true → is_slash (slice_index (drop from path) (p - from)) ≡ true
@@ -115,6 +113,15 @@ way_more h part output path base from size at t u first is stays had last p leas
 
 -- ---- they are made
 
+-- a folder that is found has a path that is text
+seen_text : {S O F : Type 0} (d : FoldersDo S O F) (path : List ℕ) (s : S) (seen : Result (Option Found) _) (after : S) → is_none (end_of_way seen) ≡ true → places.Looks d path s seen after → IsUtf8 path
+seen_text d path s seen after is (places.no_text u t at same) = absurd (let no : is_none (end_of_way (Err u)) ≡ true = ap (λ x. is_none (end_of_way x)) (sym at) ∙ is in cc)
+seen_text d path s seen after is (places.looked found t call at) = t
+seen_text d path s seen after is (places.not_looked e u t call at) = t
+
+pub found_text : {S O F : Type 0} (d : FoldersDo S O F) (path : List ℕ) (s after : S) → FindsFolder d path s true after → IsUtf8 path
+found_text d path s after (places.by_looking seen l there) = seen_text d path s seen after (sym there) l
+
 module _ {I O F : Type 0} (h : Host I O) (IsWhole : ℕ → List ℕ → Type 0) (part output bytes : List ℕ) (start : FileSystem) where
   found_folder : (path : List ℕ) (s : FileSystem) (b : Bool) (after : FileSystem) → IsReady h IsWhole part output bytes start s → IsUtf8 path → b ≡ true → FindsFolder (folders_do {F = F} h) path s b after → FolderAt h part after.now path
   found_folder path s b after r text is (places.by_looking seen l there) =
@@ -126,17 +133,23 @@ module _ {I O F : Type 0} (h : Host I O) (IsWhole : ℕ → List ℕ → Type 0)
         apart = kinds_apart s.now (place_of h path) (place_of h part) x.found p.file at p.is x.kind_is p.kind;
       })
 
-  folder_made : (path : List ℕ) (s : FileSystem) (result : Result (Unit {0}) NotMade) (after : FileSystem) → IsReady h IsWhole part output bytes start s → result ≡ Ok _ → HasFolder (folders_do {F = F} h) path s result after → FolderAt h part after.now path
-  folder_made path s result after r ok (places.no_text e t is same) = absurd (cc)
-  folder_made path s result after r ok (places.made text call is) = record {
+  new_folder : (path : List ℕ) (mode : ℕ) (s : FileSystem) (result : Result (Unit {0}) NotMade) (after : FileSystem) → IsReady h IsWhole part output bytes start s → result ≡ Ok _ → MakesNew (folders_do {F = F} h) path mode s result after → FolderAt h part after.now path
+  new_folder path mode s result after r ok (places.no_text e t is same) = absurd (cc)
+  new_folder path mode s result after r ok (places.made text call is) = record {
     at = record { text = text; found = call.made; is = call.puts.there; kind_is = call.kind };
     apart = none_apart s.now (place_of h path) (place_of h part) (ready r).file call.nothing (ready r).is;
   }
-  folder_made path s result after r ok (places.was_there cause tried text call k f is) = found_folder path tried true after (subst (IsReady h IsWhole part output bytes start) (sym call) r) text refl f
-  folder_made path s result after r ok (places.no_folder cause e tried text call k f is) = absurd (cc)
-  folder_made path s result after r ok (places.not_made cause e text call k is) = absurd (cc)
+  new_folder path mode s result after r ok (places.was_there cause tried text call k f is) = found_folder path tried true after (subst (IsReady h IsWhole part output bytes start) (sym call) r) text refl f
+  new_folder path mode s result after r ok (places.no_folder cause e tried text call k f is) = absurd (cc)
+  new_folder path mode s result after r ok (places.not_made cause e text call k is) = absurd (cc)
 
-  made_way : (path relative : List ℕ) → path ≡ below output relative → (base : ℕ) → length output + 1 ≤ base → (s : FileSystem) (at : ℕ) (after : FileSystem) → IsReady h IsWhole part output bytes start s → AreMade (folders_do {F = F} h) path base s at after
+  folder_made : {modes : Modes} {base : ℕ} (path : List ℕ) (s : FileSystem) (result : Result (Unit {0}) NotMade) (after : FileSystem) → IsReady h IsWhole part output bytes start s → result ≡ Ok _ → HasFolder (folders_do {F = F} h) modes path base s result after → FolderAt h part after.now path
+  folder_made path s result after r ok (places.there_already f is) = found_folder path s true after r (found_text (folders_do {F = F} h) path s after f) refl f
+  folder_made path s result after r ok (places.no_mode n e looked f m is) = absurd (cc)
+  folder_made path s result after r ok (places.has_mode mode looked seen f m new) =
+      new_folder path mode seen result after (subst (IsReady h IsWhole part output bytes start) (sym (seeks_mode (folders_do {F = F} h) (are_quiet h) path s looked (Ok mode) seen f m)) r) ok new
+
+  made_way : {modes : Modes} (path relative : List ℕ) → path ≡ below output relative → (base : ℕ) → length output + 1 ≤ base → (s : FileSystem) (at : ℕ) (after : FileSystem) → IsReady h IsWhole part output bytes start s → AreMade (folders_do {F = F} h) modes path base s at after
       → WayTo h part path base at after.now
   made_way path relative of_output base beyond s at after r (places.none_made a same) = λ p least less slash. absurd (omega (arith, a, least, less))
   made_way path relative of_output base beyond s at after r (places.and_made from size mid more slash has a) =
@@ -148,7 +161,7 @@ module _ {I O F : Type 0} (h : Host I O) (IsWhole : ℕ → List ℕ → Type 0)
       (folder_made (take (from + size) path) mid (Ok _) after ready_mid refl has) p least less is (cases_lt p from)
 
   -- each folder on the way
-  pub way_made : (path relative : List ℕ) → path ≡ below output relative → (s after : FileSystem) → IsReady h IsWhole part output bytes start s → (result : Result (Unit {0}) NotMade) → result ≡ Ok _ → MakesWay (folders_do {F = F} h) path (length output + 1) s result after
+  pub way_made : {modes : Modes} (path relative : List ℕ) → path ≡ below output relative → (s after : FileSystem) → IsReady h IsWhole part output bytes start s → (result : Result (Unit {0}) NotMade) → result ≡ Ok _ → MakesWay (folders_do {F = F} h) modes path (length output + 1) s result after
       → (folder behind : List ℕ) → path ≡ below folder behind → length output < length folder → FolderAt h part after.now folder
   way_made path relative of_output s after r result ok (places.not_all at size e mid more slash has is) = absurd (cc)
   way_made path relative of_output s after r result ok (places.all_made at more none is) = λ folder behind cut within.

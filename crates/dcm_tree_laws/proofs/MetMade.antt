@@ -1,8 +1,10 @@
 -- A file whose row says that its output was there has it there at the end.
 use Rattle.std.proofs.Common.{◌≡◌, ◌∙◌, refl, sym, ap, subst, ℕ, zero, suc, List, length, Bool, true, false, Some, None, Result, Ok}
-use Rattle.std.specs.Prelude.{◌≢◌, nat_le, if◌then◌else◌}
+use Rattle.std.specs.Prelude.{◌≢◌, nat_le}
 use Rattle.std.specs.Str.{IsUtf8}
 use Rattle.arrayvec.specs.ArrayVec.{ArrayVec}
+use Rattle.dcm_lemmas.proofs.Choice.{chosen_some}
+use Rattle.dcm_lemmas.proofs.Truth.{true_false}
 use Rattle.dcm_devices.specs.Writing.{Writer}
 use Rattle.dcm_files.specs.declared.folders.Links.TheVariants.{Followed}
 use Rattle.dcm_files.specs.declared.folders.FoundKind.TheVariants as kinds
@@ -69,9 +71,6 @@ verdict_not verdicts.PixelsMayShow e = absurd (cc)
 verdict_not (verdicts.Refused stop) e = absurd (cc)
 verdict_not (verdicts.RefusedLine stop) e = absurd (cc)
 
-true_false : {A : Type 0} (b : Bool) → b ≡ true → b ≡ false → A
-true_false b e f = absurd (cc)
-
 met_there : (alike : Bool) → is_there (met_fate alike) ≡ true
 met_there true = refl
 met_there false = refl
@@ -102,10 +101,6 @@ days_not : (cause : NoDays) → is_there (no_days_fate cause) ≡ false
 days_not (days.Refused stop) = refl
 days_not (days.Unread count) = refl
 days_not days.Unopened = refl
-
-fits_if : (b : Bool) (path other : List ℕ) → (if b then Some path else None) ≡ Some other → b ≡ true
-fits_if true path other e = refl
-fits_if false path other e = absurd (cc)
 
 named_as : (relative : List ℕ) (done : Done) (items : ArrayVec ℕ) (name : List ℕ) → done.instance ≡ Some items → items.items ≡ name → name_in relative done.instance ≡ name
 named_as relative done items name is rel = ap (name_in relative) is ∙ rel
@@ -164,7 +159,7 @@ module _ {I O E : Type 0} (F : Type 0) (h : Host I O) (r : Reader I) (w : Writer
         done_is = written;
         names = names;
         named = record { relative = items; instance_is = ap (λ (x : Done). x.instance) d; relative_is = rel };
-        at = placed_met F h r w e all m text leads alike name (name_of_instance i) held fate from start s became to after (fits_if (nat_le (length (below m.output (name_of_instance i))) PATH_LIMIT) (below m.output (name_of_instance i)) path at) is_whole elsewhere
+        at = placed_met F h r w e all m text leads alike name (name_of_instance i) held fate from start s became to after (chosen_some (nat_le (length (below m.output (name_of_instance i))) PATH_LIMIT) (below m.output (name_of_instance i)) path at) is_whole elsewhere
             (path_leads (below m.output (name_of_instance i)) start still elsewhere) fate_written (sym (ap (λ (x : Done). x.fate) d) ∙ there)
             (subst (λ (x : List ℕ). PlacesPart (working {F = F} h r w e) m name x fate from s became to after) own p);
       }
@@ -191,7 +186,7 @@ module _ {I O E : Type 0} (F : Type 0) (h : Host I O) (r : Reader I) (w : Writer
       let is_whole : IsReady h IsHeld m.part m.output (h.took f.written) opened was_filled =
       is_ready (h.took f.written)
       (more (more began (part_is_made {F = F} h IsHeld m.part m.output mode opened output made (sures.makes_part (working_folders h (sure (folders_do {F = F} h))) (folders_do {F = F} h) (working_can {F = F} h) m.part mode opened (Ok output) made makes)))
-      (is_filled_as h IsHeld (as_whole h r) w m.part m.output (h.masked mode) job input output made ending was_filled (works.fills (working_may h r w (may_do h)) (may_do h) (working_also h r w) (as_whole h r) w job input output made ending was_filled f) refl)) in
+      (is_filled_as h IsHeld (as_whole h r) w m.part m.output (h.masked mode) job input output made ending was_filled (works.fills (working_may h r w (may_do h)) (may_do h) (working_also h r w) (as_whole h r) w job input output made ending was_filled f) is refl)) in
       met_named name relative (h.took f.written) held d.verdict (ending_fate ending) told opened was_filled done to after still part.text (record { job = job; is_job = of_job; answered = d.answered })
       (sym (ap (λ (x : Ending). is_written (ending_fate x)) d.is) ∙ is) is_whole is names there apart
 

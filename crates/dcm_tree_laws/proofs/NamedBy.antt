@@ -1,9 +1,11 @@
 -- What an output is named by: its input, or the instance that was read in the part.
 use Rattle.std.proofs.Common.{◌≡◌, ◌∙◌, refl, sym, ap, subst, ℕ, List, true, false, Some, None, Result, Ok, Err}
+use Rattle.dcm_lemmas.proofs.Options.{one_value}
 use Rattle.dcm_devices.specs.Writing.{Writer}
 use Rattle.dcm_files.specs.declared.folders.Found.{Found}
 use Rattle.dcm_instance.specs.declared.names.Instance.{Instance}
 use Rattle.dcm_instance.specs.Uids.{uids_of}
+use Rattle.dcm_tree_laws.proofs.Touched.{no_done}
 use Rattle.dcm_walk.specs.Names.{below}
 use Rattle.dcm_walk.specs.Visits.{Named}
 use Rattle.dcm_walk.specs.declared.visitor.What.{What}
@@ -28,7 +30,6 @@ use Rattle.dcm_tree_laws.specs.Outputs.{IsNamedBy, IsReadInPart, IsNamedSo, by_i
 use Rattle.dcm_tree_laws.proofs.Adding.{since_ready}
 use Rattle.dcm_tree_laws.proofs.Files.{IsAny, are_any, names_part}
 use Rattle.dcm_tree_laws.proofs.Filling.{opens_file, part_is_made, is_filled_as}
-use Rattle.dcm_tree_laws.proofs.Given.{same_found}
 use Rattle.dcm_tree_laws.proofs.Jobs.{finds_job, finds_instance}
 use Rattle.dcm_tree_laws.proofs.Looking.{same_ok}
 use Rattle.dcm_tree_laws.proofs.Near.{IsNear}
@@ -36,7 +37,7 @@ use Rattle.dcm_tree_laws.proofs.SoFar.{trees_of, Adds}
 use Rattle.dcm_tree_laws.proofs.Steps.{idle, no_step, quiet}
 use Rattle.dcm_tree_laws.proofs.WholePart.{IsReady, Ready, ready, then_steps}
 use Rattle.dcm_tree_laws.proofs.Written.{days_not, instance_not, what_not, more, is_ready, true_not}
-use Rattle.dcm_tree_laws.proofs.WrittenBy.{OutputOf, no_output, no_ok, ends_not, by_out}
+use Rattle.dcm_tree_laws.proofs.WrittenBy.{OutputOf, no_output, ends_not, by_out}
 
 -- a file that is at the path of what became of a name is named so
 abbrev NamedAt : {I O : Type 0} → Host I O → Reader I → Manner → (relative : List ℕ) → Done → FileSystem → Type 0
@@ -45,7 +46,7 @@ NamedAt h r m relative done after =
 
 own_name : (became : Result Fate RunStop) (result : Result Done RunStop) (done : Done) → result ≡ under_its_name became → result ≡ Ok done → done.instance ≡ None
 own_name (Ok fate) result done is ok = ap (λ (d : Done). d.instance) (same_ok result (without_name fate) done is ok)
-own_name (Err p) result done is ok = absurd (no_ok result p done is ok)
+own_name (Err p) result done is ok = absurd (no_done result p done is ok)
 
 -- all bytes of a part are these
 abbrev Of : (out : List ℕ) → ℕ → List ℕ → Type 0
@@ -59,7 +60,7 @@ module _ {I O F E : Type 0} (h : Host I O) (r : Reader I) (w : Writer O) (e : Wr
   by_name name relative out i fate from start before done to after keeps i_ready read named by written = λ file at.
       let x : OutputOf h (Of out) m relative done start after = by_out {F = F} h (Of out) r w e m name relative out i fate from start before done to after i_ready named written in
       let same : after.now.bytes (number_of file) ≡ out =
-      subst (λ (f : Found). after.now.bytes (number_of f) ≡ out) (same_found (at_path h after.now (below m.output (name_in relative done.instance))) x.name.out.file file x.name.out.is at) x.name.out.whole in
+      subst (λ (f : Found). after.now.bytes (number_of f) ≡ out) (one_value (at_path h after.now (below m.output (name_in relative done.instance))) x.name.out.file file x.name.out.is at) x.name.out.whole in
       by_its_instance i keeps (subst (λ (b : List ℕ). IsReadInPart h r m.part (trees_of after) b i) (sym same) read) by
 
   by_named : (name relative out : List ℕ) (i : Instance) (fate : Fate) (from : E) (start before : FileSystem) (done : Done) (to : E) (after : FileSystem) → m.keeps_names ≡ false → IsReady h (Of out) m.part m.output out start before → IsReadInPart h r m.part (trees_of after) out i
@@ -86,7 +87,7 @@ module _ {I O F E : Type 0} (h : Host I O) (r : Reader I) (w : Writer O) (e : Wr
       let out : List ℕ = h.took fills.written in
       part_named name relative out (ending_fate ending) told opened was_filled done to after keeps
       (is_ready out (more (more (record { none = none; of_output = of_output; steps = no_step refl refl }) (part_is_made {F = F} h (Of out) m.part m.output mode opened output made makes))
-      (is_filled_as h (Of out) r w m.part m.output (h.masked mode) job input output made ending was_filled fills refl))) names written
+      (is_filled_as h (Of out) r w m.part m.output (h.masked mode) job input output made ending was_filled fills is refl))) names written
 
   instance_named : (job : Job) (n : Named) (mode : ℕ) (from : E) (before : FileSystem) (result : Result Done RunStop) (to : E) (after : FileSystem) (done : Done) → m.keeps_names ≡ false → before.written ≡ None → DoesByInstance (over {F = F} h r w e) job m n mode from before result to after → result ≡ Ok done
       → is_written done.fate ≡ true → NamedAt h r m n.relative done after

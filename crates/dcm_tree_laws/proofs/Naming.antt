@@ -3,6 +3,7 @@ use Rattle.std.proofs.Common.{◌≡◌, refl, sym, subst, ℕ, ◌+◌, ◌<◌
 use Rattle.dcm_walk.specs.Names.{below}
 use Rattle.dcm_trees.specs.declared.part.Naming.{Naming}
 use Rattle.dcm_trees.specs.declared.part.Naming.TheVariants.{Linked, Moved, NotFree, Failed}
+use Rattle.dcm_trees.specs.Modes.{Modes}
 use Rattle.dcm_trees.specs.Part as spec
 use Rattle.dcm_trees.specs.Part.{RemovesPart, MovesPart, MovesIfFree, GivesSecondName, GivesName, ClearsPart, is_moved}
 use Rattle.dcm_tree_laws.specs.FileSystem.{FileSystem, Host, may_do, folders_do, HasWay, at_path}
@@ -51,16 +52,16 @@ gives_second h IsWhole part Of bytes path to base some before naming after (spec
 gives_second {I} {O} {F} h IsWhole part Of bytes path to base some before naming after (spec.not_linked e tried t u call m) =
     goes_on (quiet call) (moves_if_free {I = I} {F = F} h IsWhole part Of bytes path to base some tried naming after m)
 
-pub gives_name_in : {I O F : Type 0} (h : Host I O) (IsWhole : ℕ → List ℕ → Type 0) (part : List ℕ) (Of : List ℕ → Type 0) (bytes path : List ℕ) (base : ℕ) → 0 < base → Leads Of path base → (before : FileSystem) (naming : Naming) (after : FileSystem)
-    → GivesName (may_do {I = I} h) (folders_do {F = F} h) part path base before naming after → StepsIn h IsWhole part Of (whole bytes) before (phase_of bytes naming) after
+pub gives_name_in : {I O F : Type 0} {modes : Modes} (h : Host I O) (IsWhole : ℕ → List ℕ → Type 0) (part : List ℕ) (Of : List ℕ → Type 0) (bytes path : List ℕ) (base : ℕ) → 0 < base → Leads Of path base → (before : FileSystem) (naming : Naming) (after : FileSystem)
+    → GivesName (may_do {I = I} h) (folders_do {F = F} h) modes part path base before naming after → StepsIn h IsWhole part Of (whole bytes) before (phase_of bytes naming) after
 gives_name_in {I} {O} {F} h IsWhole part Of bytes path base some leads before naming after (spec.no_way e m n) =
     by_naming bytes naming Failed n (makes_way_in {F = F} h IsWhole part Of (whole bytes) refl path base leads before (Err e) after m)
 gives_name_in {I} {O} {F} h IsWhole part Of bytes path base some leads before naming after (spec.on_its_way has_way m g) =
     goes_on (makes_way_in {F = F} h IsWhole part Of (whole bytes) refl path base leads before (Ok _) has_way m)
     (gives_second {I = I} {F = F} h IsWhole part Of bytes path leads.end base some has_way naming after g)
 
-pub gives_name : {I O F : Type 0} (h : Host I O) (IsWhole : ℕ → List ℕ → Type 0) (part output bytes path relative : List ℕ) → path ≡ below output relative → (before : FileSystem) (naming : Naming) (after : FileSystem)
-    → GivesName (may_do {I = I} h) (folders_do {F = F} h) part path (length output + 1) before naming after → Steps h IsWhole part output (whole bytes) before (phase_of bytes naming) after
+pub gives_name : {I O F : Type 0} {modes : Modes} (h : Host I O) (IsWhole : ℕ → List ℕ → Type 0) (part output bytes path relative : List ℕ) → path ≡ below output relative → (before : FileSystem) (naming : Naming) (after : FileSystem)
+    → GivesName (may_do {I = I} h) (folders_do {F = F} h) modes part path (length output + 1) before naming after → Steps h IsWhole part output (whole bytes) before (phase_of bytes naming) after
 gives_name {I} {O} {F} h IsWhole part output bytes path relative is =
     gives_name_in {I = I} {F = F} h IsWhole part (IsNear output) bytes path (length output + 1) (omega arith) (leads_near output relative path (length output + 1) is (omega arith))
 

@@ -1,17 +1,18 @@
 -- The folder of the outputs is told from others by the number of what is at its path.
-use Rattle.std.proofs.Common.{◌≡◌, ◌∙◌, refl, sym, subst, ℕ, List, Bool, Option, Some, Result, Ok, Err}
+use Rattle.std.proofs.Common.{◌≡◌, ◌∙◌, refl, sym, subst, ℕ, List, Bool, true, Option, Some, Result, Ok, Err}
 use Rattle.std.specs.Prelude.{IfOk}
 use Rattle.dcm_files.specs.Folders.{FoldersDo}
 use Rattle.dcm_files.specs.declared.folders.Found.{Found}
+use Rattle.dcm_files.specs.declared.folders.FoundKind.TheVariants.{Folder}
 use Rattle.dcm_files.specs.declared.folders.Links.TheVariants.{Followed}
 use Rattle.dcm_walk.specs.declared.folder.FolderNumber.{FolderNumber}
-use Rattle.dcm_trees.specs.declared.beginning.Begun.{Begun}
 use Rattle.dcm_trees.specs.declared.beginning.Refusal.{Refusal}
 use Rattle.dcm_trees.specs.Beginning as spec
-use Rattle.dcm_trees.specs.Beginning.{Looks, Numbers, Climbed, Climbs, NumbersFolder, MakesOutput, Compares, MakesApart, HasOutput, Begins}
+use Rattle.dcm_trees.specs.Beginning.{Looks, Numbers, Climbed, Climbs, IsThere, NumbersFolder, MakesOutput, Compares, MakesApart, HasOutput}
+use Rattle.dcm_trees.specs.Modes.{Modes}
 use Rattle.dcm_tree_laws.specs.Course.{IsNumberAt}
 use Rattle.dcm_tree_laws.specs.FileSystem.{FileSystem, Tree, Host}
-use Rattle.dcm_tree_laws.proofs.Beginnings.{numbers, numbers_folder, compares, checks_part, checks_use}
+use Rattle.dcm_tree_laws.proofs.Beginnings.{numbers, is_there, numbers_folder, compares}
 use Rattle.dcm_tree_laws.proofs.Looking.{same_ok}
 use Rattle.dcm_tree_laws.proofs.Quiet.{Quiet}
 
@@ -26,6 +27,12 @@ if_so {A} IsSo r a is so = subst (λ (x : Result A Refusal). IfOk x IsSo) (sym i
 
 if_not : {A : Type 0} (IsSo : A → Type 0) (r : Result A Refusal) (e : Refusal) → r ≡ Err e → IfOk r IsSo
 if_not {A} IsSo r e is = subst (λ (x : Result A Refusal). IfOk x IsSo) (sym is) tt
+
+-- a folder is at a path, links followed
+pub record FolderThere {I O : Type 0} (h : Host I O) (path : List ℕ) (t : Tree) : Type 0 where
+  pub found : Found
+  pub is : t.at (h.leads Followed path) ≡ Some found
+  pub kind : found.kind ≡ Folder
 
 module _ {I O F : Type 0} (h : Host I O) (d : FoldersDo FileSystem O F) (quiet : Quiet d)
     (finds : (before : FileSystem) (path : List ℕ) (found : Option Found) (after : FileSystem) → d.finds before path Followed (Ok found) after → found ≡ before.now.at (h.leads Followed path)) where
@@ -66,9 +73,10 @@ module _ {I O F : Type 0} (h : Host I O) (d : FoldersDo FileSystem O F) (quiet :
   compares_at input is_list output before number after (spec.apart read way back mid was n c k b o is) =
       by_number h output before.now way.first number (Ok number) refl is (by_state h output way.first mid before (sym (numbers d quiet input before (Ok read) mid n)) (climbs_at output read mid (Ok way) was c))
 
-  makes_at : (output : List ℕ) (before : FileSystem) (number : FolderNumber) (after : FileSystem) → MakesOutput d output before (Ok number) after → IsNumberAt h after.now output number
-  makes_at output before number after (spec.not_made refusal m is) = absurd (cc)
-  makes_at output before number after (spec.made mid m n) = by_state h output number mid after (numbers_folder d quiet output mid (Ok number) after n) (folder_at output mid number after n)
+  makes_at : {modes : Modes} (output : List ℕ) (before : FileSystem) (number : FolderNumber) (after : FileSystem) → MakesOutput d modes output before (Ok number) after → IsNumberAt h after.now output number
+  makes_at output before number after (spec.no_mode n f is) = absurd (cc)
+  makes_at output before number after (spec.not_made mode refusal seen f m is) = absurd (cc)
+  makes_at output before number after (spec.made mode seen mid f m n) = by_state h output number mid after (numbers_folder d quiet output mid (Ok number) after n) (folder_at output mid number after n)
 
   apart_at : (input : List ℕ) (is_list : Bool) (output : List ℕ) (before : FileSystem) (number : FolderNumber) (after : FileSystem) → MakesApart d input is_list output before (Ok number) after → IsNumberAt h after.now output number
   apart_at input is_list output before number after (spec.not_numbered refusal n is) = absurd (cc)
@@ -76,17 +84,46 @@ module _ {I O F : Type 0} (h : Host I O) (d : FoldersDo FileSystem O F) (quiet :
   apart_at input is_list output before number after (spec.within read way mid n c k is) = absurd (cc)
   apart_at input is_list output before number after (spec.made read way mid was n c k m) = makes_at output was number after m
 
-  has_at : (input : List ℕ) (is_list : Bool) (output : List ℕ) (before : FileSystem) (number : FolderNumber) (after : FileSystem) → HasOutput d input is_list output before (Ok number) after → IsNumberAt h after.now output number
+  pub has_at : (input : List ℕ) (is_list : Bool) (output : List ℕ) (before : FileSystem) (number : FolderNumber) (after : FileSystem) → HasOutput d input is_list output before (Ok number) after → IsNumberAt h after.now output number
   has_at input is_list output before number after (spec.not_looked refusal l is) = absurd (cc)
   has_at input is_list output before number after (spec.was_there looked l c) = by_state h output number looked after (compares d quiet input is_list output looked (Ok number) after c) (compares_at input is_list output looked number after c)
   has_at input is_list output before number after (spec.not_there looked l m) = apart_at input is_list output looked number after m
 
-  -- it is so of a run that was begun
-  pub begun_at : (input : List ℕ) (is_list : Bool) (output name : List ℕ) (continues : Bool) (before : FileSystem) (begun : Begun) (after : FileSystem) → Begins d input is_list output name continues before (Ok begun) after → IsNumberAt h after.now output begun.number
-  begun_at input is_list output name continues before begun after (spec.no_output refusal has is) = absurd (cc)
-  begun_at input is_list output name continues before begun after (spec.no_part number refusal has p is) = absurd (cc)
-  begun_at input is_list output name continues before begun after (spec.has_part number path refusal mid has p c is) = absurd (cc)
-  begun_at input is_list output name continues before begun after (spec.in_use number path refusal mid checked has p c u is) = absurd (cc)
-  begun_at input is_list output name continues before begun after (spec.begun number path mid checked has p c u is) =
-      subst (λ (b : Begun). IsNumberAt h after.now output b.number) (same_ok (Ok begun) begun (record { number = number; part = path }) refl is)
-      (by_state h output number mid after (checks_use d quiet output continues checked (Ok _) after u ∙ checks_part d quiet path.items mid (Ok _) checked c) (has_at input is_list output before number mid has))
+  -- a folder is at its path
+  there_of : (output : List ℕ) (before : FileSystem) (found : Found) (after : FileSystem) → Looks d output before (Ok (Some found)) after → found.kind ≡ Folder → FolderThere h output before.now
+  there_of output before found after (spec.no_text t is same) kind = absurd (cc)
+  there_of output before found after (spec.looked other t call is) kind =
+      record { found = found; is = sym (finds before output other after call) ∙ same_ok (Ok other) (Some found) other (sym is) refl; kind = kind }
+  there_of output before found after (spec.not_looked e t call is) kind = absurd (cc)
+
+  there_by : (output : List ℕ) (before after : FileSystem) → after ≡ before → FolderThere h output before.now → FolderThere h output after.now
+  there_by output before after same there = subst (λ (s : FileSystem). FolderThere h output s.now) (sym same) there
+
+  is_there_at : (output : List ℕ) (before after : FileSystem) → IsThere d output before (Ok true) after → FolderThere h output before.now
+  is_there_at output before after (spec.nothing l is) = absurd (cc)
+  is_there_at output before after (spec.a_folder found l k is) = there_of output before found after l k
+  is_there_at output before after (spec.no_folder found l k is) = absurd (cc)
+  is_there_at output before after (spec.not_seen refusal l is) = absurd (cc)
+
+  numbered_there : (output : List ℕ) (before : FileSystem) (number : FolderNumber) (after : FileSystem) → NumbersFolder d output before (Ok number) after → FolderThere h output before.now
+  numbered_there output before number after (spec.a_folder found l k is) = there_of output before found after l k
+  numbered_there output before number after (spec.no_folder found l k is) = absurd (cc)
+  numbered_there output before number after (spec.nothing l is) = absurd (cc)
+  numbered_there output before number after (spec.not_seen refusal l is) = absurd (cc)
+
+  made_there : {modes : Modes} (output : List ℕ) (before : FileSystem) (number : FolderNumber) (after : FileSystem) → MakesOutput d modes output before (Ok number) after → FolderThere h output after.now
+  made_there output before number after (spec.no_mode n f is) = absurd (cc)
+  made_there output before number after (spec.not_made mode refusal seen f m is) = absurd (cc)
+  made_there output before number after (spec.made mode seen mid f m n) = there_by output mid after (numbers_folder d quiet output mid (Ok number) after n) (numbered_there output mid number after n)
+
+  apart_there : (input : List ℕ) (is_list : Bool) (output : List ℕ) (before : FileSystem) (number : FolderNumber) (after : FileSystem) → MakesApart d input is_list output before (Ok number) after → FolderThere h output after.now
+  apart_there input is_list output before number after (spec.not_numbered refusal n is) = absurd (cc)
+  apart_there input is_list output before number after (spec.not_climbed read refusal mid n c is) = absurd (cc)
+  apart_there input is_list output before number after (spec.within read way mid n c k is) = absurd (cc)
+  apart_there input is_list output before number after (spec.made read way mid was n c k m) = made_there output was number after m
+
+  pub folder_there : (input : List ℕ) (is_list : Bool) (output : List ℕ) (before : FileSystem) (number : FolderNumber) (after : FileSystem) → HasOutput d input is_list output before (Ok number) after → FolderThere h output after.now
+  folder_there input is_list output before number after (spec.not_looked refusal l is) = absurd (cc)
+  folder_there input is_list output before number after (spec.was_there looked l c) =
+      there_by output looked after (compares d quiet input is_list output looked (Ok number) after c) (there_by output before looked (is_there d quiet output before (Ok true) looked l) (is_there_at output before looked l))
+  folder_there input is_list output before number after (spec.not_there looked l m) = apart_there input is_list output looked number after m

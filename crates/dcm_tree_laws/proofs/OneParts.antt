@@ -6,6 +6,8 @@ use Rattle.std.proofs.lemmas.Bool.{eqb-true, le-ltb}
 use Rattle.std.proofs.lemmas.List.{append_cancel_left, take_all, length-take}
 use Rattle.std.proofs.lemmas.Str.{IsUtf8-take, IsCharBoundary-before_ascii}
 use Rattle.std.proofs.Math.Seq.{drop-append_seam, take-append_seam, get_or-append_seam}
+use Rattle.dcm_lemmas.proofs.Lists.{cons_alike, heads_alike, tails_alike}
+use Rattle.dcm_lemmas.proofs.Truth.{and_second}
 use Rattle.dcm_names.specs.Names.{NAME_LIMIT}
 use Rattle.dcm_walk.specs.Folder.{IsFit, named_at}
 use Rattle.dcm_walk.specs.Names.{PATH_LIMIT, below, is_slash, begins_part, goes_below, leads_below, is_part_file}
@@ -37,25 +39,16 @@ below_folder folder name other at = let x = in_folder folder name other at in (x
 rest_one : (b : ℕ) (bs : List ℕ) → IsOnePart (b ∷ bs) → IsOnePart bs
 rest_one b bs one = λ folder behind e. one (b ∷ folder) behind (ap (λ (x : List ℕ). b ∷ x) e)
 
-heads : (a b : ℕ) (xs ys : List ℕ) → a ∷ xs ≡ b ∷ ys → a ≡ b
-heads a b xs ys e = cc
-
-tails : (a b : ℕ) (xs ys : List ℕ) → a ∷ xs ≡ b ∷ ys → xs ≡ ys
-tails a b xs ys e = cc
-
 -- a slash does not begin it
 not_slash : (b : ℕ) (bs : List ℕ) → IsOnePart (b ∷ bs) → b ≡ 47 → ⊥
 not_slash b bs one e = one [] bs (ap (λ (c : ℕ). c ∷ bs) e)
 
-both_first : (x y : ℕ) (xs ys : List ℕ) → x ≡ y → xs ≡ ys → x ∷ xs ≡ y ∷ ys
-both_first x y xs ys e f = cc
-
 first_part : (a b r s : List ℕ) → IsOnePart a → IsOnePart b → below a r ≡ below b s → a ≡ b
 first_part [] [] r s one other e = refl
-first_part [] (y ∷ ys) r s one other e = absurd (not_slash y ys other (sym (heads 47 y r (below ys s) e)))
-first_part (x ∷ xs) [] r s one other e = absurd (not_slash x xs one (heads x 47 (below xs r) s e))
+first_part [] (y ∷ ys) r s one other e = absurd (not_slash y ys other (sym (heads_alike 47 y r (below ys s) e)))
+first_part (x ∷ xs) [] r s one other e = absurd (not_slash x xs one (heads_alike x 47 (below xs r) s e))
 first_part (x ∷ xs) (y ∷ ys) r s one other e =
-    both_first x y xs ys (heads x y (below xs r) (below ys s) e) (first_part xs ys r s (rest_one x xs one) (rest_one y ys other) (tails x y (below xs r) (below ys s) e))
+    cons_alike x y xs ys (heads_alike x y (below xs r) (below ys s) e) (first_part xs ys r s (rest_one x xs one) (rest_one y ys other) (tails_alike x y (below xs r) (below ys s) e))
 
 same_part : (a b x : List ℕ) → IsOnePart a → IsOnePart b → AtOrBelow a x → AtOrBelow b x → a ≡ b
 same_part a b x one other (inl e) (inl f) = sym e ∙ f
@@ -87,8 +80,8 @@ slash_is : (b : ℕ) (t : Bool) → is_slash b ≡ t → t ≡ false → b ≡ 4
 slash_is b t e f is = absurd (let x : is_slash 47 ≡ t = ap is_slash (sym is) ∙ e in cc)
 
 with_first : (b : ℕ) (bs : List ℕ) → is_slash b ≡ false → IsOnePart bs → IsOnePart (b ∷ bs)
-with_first b bs plain one [] behind e = slash_is b false plain refl (heads b 47 bs behind e)
-with_first b bs plain one (c ∷ cs) behind e = one cs behind (tails b c bs (below cs behind) e)
+with_first b bs plain one [] behind e = slash_is b false plain refl (heads_alike b 47 bs behind e)
+with_first b bs plain one (c ∷ cs) behind e = one cs behind (tails_alike b c bs (below cs behind) e)
 
 deep : (t : Bool) (b : ℕ) (bs : List ℕ) → is_slash b ≡ t → depth (b ∷ bs) ≡ (if t then suc (depth bs) else depth bs)
 deep t b bs e = ap (λ (u : Bool). if u then suc (depth bs) else depth bs) e
@@ -109,20 +102,12 @@ and_last true true c e = e
 and_last true false c e = absurd (cc)
 and_last false b c e = absurd (cc)
 
-both_true : (a b : Bool) → a ≡ true → b ≡ true → (a && b) ≡ true
-both_true true b e f = f
-both_true false b e f = absurd (cc)
-
 behind_slash : (begins goes : Bool) → (not false && (not true || begins) && goes) ≡ true → (begins && goes) ≡ true
 behind_slash begins goes e = e
 
 goes_rest : (first rest : List ℕ) → goes_below (first ++ (47 ∷ rest)) ≡ true → leads_below rest ≡ true
 goes_rest [] rest e = e
 goes_rest (b ∷ bs) rest e = goes_rest bs rest (and_last (not (b == 0)) (not (is_slash b) || begins_part (bs ++ (47 ∷ rest))) (goes_below (bs ++ (47 ∷ rest))) e)
-
-and_second : (a b : Bool) → (a && b) ≡ true → b ≡ true
-and_second true b e = e
-and_second false b e = absurd (cc)
 
 pub leads_rest : (first rest : List ℕ) → leads_below (below first rest) ≡ true → leads_below rest ≡ true
 leads_rest first rest e =

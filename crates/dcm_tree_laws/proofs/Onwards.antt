@@ -4,6 +4,7 @@ use Rattle.std.specs.Prelude.{◌≢◌, slice_index}
 use Rattle.std.specs.Option.{is_none}
 use Rattle.std.specs.Str.{IsUtf8}
 use Rattle.std.proofs.lemmas.Bool.{cases_lt}
+use Rattle.dcm_lemmas.proofs.Truth.{true_false}
 use Rattle.dcm_files.specs.declared.folders.Found.{Found}
 use Rattle.dcm_files.specs.declared.folders.FoundKind.{FoundKind}
 use Rattle.dcm_files.specs.declared.folders.FoundKind.TheVariants as kinds
@@ -13,8 +14,9 @@ use Rattle.dcm_walk.specs.Names.{is_slash}
 use Rattle.dcm_trees.specs.declared.place.NotMade.{NotMade}
 use Rattle.dcm_trees.specs.declared.place.Place.{Place}
 use Rattle.dcm_trees.specs.declared.place.Place.TheVariants as place
+use Rattle.dcm_trees.specs.Modes.{Modes}
 use Rattle.dcm_trees.specs.Place as places
-use Rattle.dcm_trees.specs.Place.{Looks, AreFolders, LooksAlong, Finds, FindsFolder, HasFolder, AreMade, MakesWay, end_of_way, end_of_found, end_at, place_of, place_of_found, place_at, is_free}
+use Rattle.dcm_trees.specs.Place.{Looks, AreFolders, LooksAlong, Finds, FindsFolder, MakesNew, HasFolder, AreMade, MakesWay, end_of_way, end_of_found, end_at, place_of, place_of_found, place_at, is_free}
 use Rattle.dcm_tree_laws.specs.Again.{sure}
 use Rattle.dcm_tree_laws.specs.Determined.{working_folders}
 use Rattle.dcm_tree_laws.specs.FileSystem.{FileSystem, Tree, Host, number_of, place_of as path_place, at_path, folders_do, MakesFolder}
@@ -32,13 +34,11 @@ calls_of F h = working_folders h (sure (folders_do {F = F} h))
 pub calls_quiet : {I O : Type 0} (F : Type 0) (h : Host I O) → Quiet (calls_of F h)
 calls_quiet {I} {O} F h = record {
   finds = λ before path links r after call. (sure_quiet {F = F} h).finds before path links r after call;
+  modes = λ before folder name r after call. (sure_quiet {F = F} h).modes before folder name r after call;
   opens = λ before path r after call. (sure_quiet {F = F} h).opens before path r after call;
   names = λ before folder r left after call. (sure_quiet {F = F} h).names before folder r left after call;
   closes = λ before folder after call. (sure_quiet {F = F} h).closes before folder after call;
 }
-
-true_false : {A : Type 0} (b : Bool) → b ≡ true → b ≡ false → A
-true_false b e f = absurd (cc)
 
 -- ---- what a look sees
 
@@ -84,7 +84,7 @@ stop_once h t u path one other alike first second = by_sights h t u path one oth
 
 abbrev pub place_seen : {U : Type 0} → Result (Option Found) U → Place
 place_seen (Ok found) = place_of_found found
-place_seen (Err u) = place.Taken
+place_seen (Err u) = place.Barred
 
 place_once : {I O U : Type 0} (h : Host I O) (t u : Tree) (path : List ℕ) (one other : Result (Option Found) U) → AlikeAt t u (at_path h t path) (at_path h u path) → Sight h t path one → Sight h u path other → place_seen one ≡ place_seen other
 place_once h t u path one other alike first second = by_sights h t u path one other place_seen (λ a b. refl) (same_place t u (at_path h t path) (at_path h u path) alike) first second
@@ -230,7 +230,7 @@ pub record EndsAt {I O : Type 0} (h : Host I O) (t : Tree) (path : List ℕ) (p 
 
 abbrev pub Lands : {I O : Type 0} → Host I O → Tree → (path : List ℕ) → (stop : Option Bool) → Place → Type 0
 Lands h t path (Some false) p = p ≡ place.Free
-Lands h t path (Some true) p = p ≡ place.Taken
+Lands h t path (Some true) p = p ≡ place.Barred
 Lands h t path None p = EndsAt h t path p
 
 -- what is found at a path
@@ -281,7 +281,7 @@ file_by h t path None text is e = absurd (cc)
 file_by h t path (Some f) text is e = record { text = text; found = f; is = is; kind = file_kind f.kind e }
 
 sees_file : {I O U : Type 0} (h : Host I O) (t : Tree) (path : List ℕ) (seen : Result (Option Found) U) → Sight h t path seen → place_seen seen ≡ place.There → IsFileAt h t path
-sees_file h t path seen (unfit u text is) there = absurd (let lacks : place.Taken ≡ place.There = ap place_seen (sym is) ∙ there in cc)
+sees_file h t path seen (unfit u text is) there = absurd (let lacks : place.Barred ≡ place.There = ap place_seen (sym is) ∙ there in cc)
 sees_file h t path seen (fit text is) there = file_by h t path (at_path h t path) text refl (ap place_seen (sym is) ∙ there)
 
 lands_there : {I O : Type 0} (h : Host I O) (t : Tree) (path : List ℕ) (stop : Option Bool) (p : Place) → Lands h t path stop p → p ≡ place.There → IsFileAt h t path
@@ -298,7 +298,7 @@ stands_there h t path base stand = lands_there h t path stand.stop place.There s
 -- is a folder
 pub data Had {I O : Type 0} (h : Host I O) (path : List ℕ) (before : FileSystem) (has : Bool) (after : FileSystem) : Type 0 where
   no_text : ¬ (IsUtf8 path) → has ≡ false → after ≡ before → Had h path before has after
-  made : IsUtf8 path → has ≡ true → MakesFolder h path before after → Had h path before has after
+  made : (mode : ℕ) → IsUtf8 path → has ≡ true → MakesFolder h path mode before after → Had h path before has after
   was_there : (f : Found) → IsUtf8 path → at_path h before.now path ≡ Some f → has ≡ is_none (end_at f.kind) → after ≡ before → Had h path before has after
 
 abbrev pub is_ok : {A E : Type 0} → Result A E → Bool
@@ -319,14 +319,34 @@ finds_had {I} {O} {F} h path s tried has result after same some text is (places.
     subst (λ (x : FileSystem). Had h path s result x) (sym back)
     (found_had h path s result seen some text (is ∙ there) (subst (λ (x : FileSystem). Sight h x.now path seen) same (sight {F = F} h path tried seen after l)))
 
-had : {I O F : Type 0} (h : Host I O) (path : List ℕ) (s : FileSystem) (r : Result (Unit {0}) NotMade) (after : FileSystem) → HasFolder (calls_of F h) path s r after → Had h path s (is_ok r) after
-had h path s r after (places.no_text e text is same) = no_text text (ap is_ok is) same
-had h path s r after (places.made text call is) = made text (ap is_ok is) call.0
-had {I} {O} {F} h path s r after (places.was_there cause tried text call kind f is) = finds_had {F = F} h path s tried true (is_ok r) after call.0 call.1.0 text (ap is_ok is) f
-had {I} {O} {F} h path s r after (places.no_folder cause e tried text call kind f is) = finds_had {F = F} h path s tried false (is_ok r) after call.0 call.1.0 text (ap is_ok is) f
-had h path s r after (places.not_made cause e text call kind is) = absurd (kind call.1.1)
+new_had : {I O F : Type 0} (h : Host I O) (path : List ℕ) (mode : ℕ) (s : FileSystem) (r : Result (Unit {0}) NotMade) (after : FileSystem) → MakesNew (calls_of F h) path mode s r after → Had h path s (is_ok r) after
+new_had h path mode s r after (places.no_text e text is same) = no_text text (ap is_ok is) same
+new_had h path mode s r after (places.made text call is) = made mode text (ap is_ok is) call.0
+new_had {I} {O} {F} h path mode s r after (places.was_there cause tried text call kind f is) = finds_had {F = F} h path s tried true (is_ok r) after call.0 call.1.0 text (ap is_ok is) f
+new_had {I} {O} {F} h path mode s r after (places.no_folder cause e tried text call kind f is) = finds_had {F = F} h path s tried false (is_ok r) after call.0 call.1.0 text (ap is_ok is) f
+new_had h path mode s r after (places.not_made cause e text call kind is) = absurd (kind call.1.1)
 
-folder_change : {I O : Type 0} (h : Host I O) (path : List ℕ) (s after : FileSystem) (m : MakesFolder h path s after) → Changes (path_place h path) (Some m.made) s.now after.now
+-- what is there already
+seen_some : (seen : Result (Option Found) _) (o : Option Found) → is_none (end_of_way seen) ≡ true → seen ≡ Ok o → o ≢ None
+seen_some seen None goes is = absurd (let no : is_none (end_of_way (Ok None)) ≡ true = ap (λ x. is_none (end_of_way x)) (sym is) ∙ goes in cc)
+seen_some seen (Some f) goes is = λ e. absurd (cc)
+
+seen_had : {I O : Type 0} (h : Host I O) (path : List ℕ) (s : FileSystem) (has : Bool) (seen : Result (Option Found) _) → is_none (end_of_way seen) ≡ true → has ≡ is_none (end_of_way seen) → Sight h s.now path seen → Had h path s has s
+seen_had h path s has seen goes is (unfit u lacks at) = absurd (let no : is_none (end_of_way (Err u)) ≡ true = ap (λ x. is_none (end_of_way x)) (sym at) ∙ goes in cc)
+seen_had h path s has seen goes is (fit text at) = found_had h path s has seen (seen_some seen (at_path h s.now path) goes at) text is (fit text at)
+
+there_had : {I O F : Type 0} (h : Host I O) (path : List ℕ) (s : FileSystem) (has : Bool) (after : FileSystem) → has ≡ true → FindsFolder (calls_of F h) path s true after → Had h path s has after
+there_had {I} {O} {F} h path s has after is (places.by_looking seen l there) =
+    subst (λ (x : FileSystem). Had h path s has x) (sym (looking.looks (calls_of F h) (calls_quiet F h) path s seen after l)) (seen_had h path s has seen (sym there) (is ∙ there) (sight {F = F} h path s seen after l))
+
+had : {I O F : Type 0} {modes : Modes} {base : ℕ} (h : Host I O) (path : List ℕ) (s : FileSystem) (r : Result (Unit {0}) NotMade) (after : FileSystem) → HasFolder (calls_of F h) modes path base s r after → Had h path s (is_ok r) after
+had {I} {O} {F} h path s r after (places.there_already f is) = there_had {F = F} h path s (is_ok r) after (ap is_ok is) f
+had {I} {O} {F} h path s r after (places.no_mode n e looked f m is) = absurd (looking.always_mode (calls_of F h) (λ before folder name error end call. call.1 error refl) looked n after m)
+had {I} {O} {F} h path s r after (places.has_mode mode looked seen f m new) =
+    let same : seen ≡ s = looking.seeks_mode (calls_of F h) (calls_quiet F h) path s looked (Ok mode) seen f m in
+    subst (λ (x : FileSystem). Had h path x (is_ok r) after) same (new_had {F = F} h path mode seen r after new)
+
+folder_change : {I O : Type 0} {mode : ℕ} (h : Host I O) (path : List ℕ) (s after : FileSystem) (m : MakesFolder h path mode s after) → Changes (path_place h path) (Some m.made) s.now after.now
 folder_change h path s after m = record { there = m.puts.there; elsewhere = m.puts.elsewhere; bytes = λ other f is. m.bytes (number_of f) }
 
 no_file : (f : Found) → f.kind ≡ kinds.Folder → f.kind ≡ kinds.File → ⊥
@@ -347,16 +367,16 @@ onward_same h output one other s u v w has same first second = record {
 
 had_once : {I O : Type 0} (h : Host I O) (output path : List ℕ) (s u : FileSystem) (one other : Bool) (v w : FileSystem) → IsOfOutput output path → SameOutputs h output s.now u.now → Had h path s one v → Had h path u other w → Onward h output one other v w
 had_once h output path s u one other v w of_output same (no_text lacks is at) (no_text text e f) = onward_same h output one other s u v w (is ∙ sym e) same at f
-had_once h output path s u one other v w of_output same (no_text lacks is at) (made text e m) = absurd (lacks text)
+had_once h output path s u one other v w of_output same (no_text lacks is at) (made mode text e m) = absurd (lacks text)
 had_once h output path s u one other v w of_output same (no_text lacks is at) (was_there g text there e back) = absurd (lacks text)
-had_once h output path s u one other v w of_output same (made text is m) (no_text lacks e f) = absurd (lacks text)
-had_once h output path s u one other v w of_output same (made text is m) (made too e n) = record {
+had_once h output path s u one other v w of_output same (made mode text is m) (no_text lacks e f) = absurd (lacks text)
+had_once h output path s u one other v w of_output same (made mode text is m) (made other_mode too e n) = record {
   has = is ∙ sym e;
   same = both_change h output path s.now u.now v.now w.now (Some m.made) (Some n.made) same (folder_change h path s v m) (folder_change h path u w n) (made_alike v.now w.now m.made n.made m.kind n.kind);
 }
-had_once h output path s u one other v w of_output same (made text is m) (was_there g too there e back) = alike_none s.now u.now (at_path h s.now path) (at_path h u.now path) g (same path of_output) m.nothing there
+had_once h output path s u one other v w of_output same (made mode text is m) (was_there g too there e back) = alike_none s.now u.now (at_path h s.now path) (at_path h u.now path) g (same path of_output) m.nothing there
 had_once h output path s u one other v w of_output same (was_there f text there is back) (no_text lacks e at) = absurd (lacks text)
-had_once h output path s u one other v w of_output same (was_there f text there is back) (made too e n) =
+had_once h output path s u one other v w of_output same (was_there f text there is back) (made mode too e n) =
     alike_none u.now s.now (at_path h u.now path) (at_path h s.now path) f (alike_back s.now u.now (at_path h s.now path) (at_path h u.now path) (same path of_output)) n.nothing there
 had_once h output path s u one other v w of_output same (was_there f text there is back) (was_there g too at e stays) =
     let alike : AreAlike s.now u.now f g = alike_some s.now u.now (at_path h s.now path) (at_path h u.now path) f g (same path of_output) there at in
@@ -364,7 +384,7 @@ had_once h output path s u one other v w of_output same (was_there f text there 
 
 had_keeps : {I O : Type 0} (h : Host I O) (path : List ℕ) (s : FileSystem) (has : Bool) (after : FileSystem) → Had h path s has after → Keeps s.now after.now
 had_keeps h path s has after (no_text lacks is same) = subst (λ (x : FileSystem). Keeps s.now x.now) (sym same) (all_kept s.now)
-had_keeps h path s has after (made text is m) = new_keeps (path_place h path) (Some m.made) s.now after.now m.nothing (folder_change h path s after m)
+had_keeps h path s has after (made mode text is m) = new_keeps (path_place h path) (Some m.made) s.now after.now m.nothing (folder_change h path s after m)
 had_keeps h path s has after (was_there f text there is same) = subst (λ (x : FileSystem). Keeps s.now x.now) (sym same) (all_kept s.now)
 
 -- a folder is there then
@@ -381,7 +401,7 @@ folder_kind kinds.Other e = absurd (cc)
 
 had_folder : {I O : Type 0} (h : Host I O) (path : List ℕ) (s : FileSystem) (has : Bool) (after : FileSystem) → has ≡ true → Had h path s has after → IsFolderAt h after.now path
 had_folder h path s has after so (no_text lacks is same) = true_false has so is
-had_folder h path s has after so (made text is m) = record { text = text; found = m.made; is = m.puts.there; goes = ap kind_stop m.kind }
+had_folder h path s has after so (made mode text is m) = record { text = text; found = m.made; is = m.puts.there; goes = ap kind_stop m.kind }
 had_folder h path s has after so (was_there f text there is same) = record {
   text = text;
   found = f;
@@ -397,13 +417,13 @@ pub data Paves {I O : Type 0} (h : Host I O) (path : List ℕ) (has : Bool) (aft
   fails : {at : ℕ} {before : FileSystem} (size : ℕ) → IsSlash (drop at path) (Some size) → Had h (take (at + size) path) before false after → has ≡ false → Paves h path has after at before
   goes_on : {at : ℕ} {before : FileSystem} (size : ℕ) (mid : FileSystem) → IsSlash (drop at path) (Some size) → Had h (take (at + size) path) before true mid → Paves h path has after (at + (size + 1)) mid → Paves h path has after at before
 
-paves_from : {I O F : Type 0} (h : Host I O) (path : List ℕ) (base : ℕ) (s : FileSystem) (has : Bool) (after : FileSystem) (at : ℕ) (mid : FileSystem) → AreMade (calls_of F h) path base s at mid → Paves h path has after at mid → Paves h path has after base s
+paves_from : {I O F : Type 0} {modes : Modes} (h : Host I O) (path : List ℕ) (base : ℕ) (s : FileSystem) (has : Bool) (after : FileSystem) (at : ℕ) (mid : FileSystem) → AreMade (calls_of F h) modes path base s at mid → Paves h path has after at mid → Paves h path has after base s
 paves_from h path base s has after at mid (places.none_made is same) paves =
     subst (λ (n : ℕ). Paves h path has after n s) is (subst (λ (x : FileSystem). Paves h path has after at x) same paves)
 paves_from {I} {O} {F} h path base s has after at mid (places.and_made from size between earlier slash has_it is) paves =
     paves_from {F = F} h path base s has after from between earlier (goes_on size mid slash (had {F = F} h (take (from + size) path) between (Ok _) mid has_it) (subst (λ (n : ℕ). Paves h path has after n mid) is paves))
 
-pub paves : {I O F : Type 0} (h : Host I O) (path : List ℕ) (base : ℕ) (s : FileSystem) (r : Result (Unit {0}) NotMade) (after : FileSystem) → MakesWay (calls_of F h) path base s r after → Paves h path (is_ok r) after base s
+pub paves : {I O F : Type 0} {modes : Modes} (h : Host I O) (path : List ℕ) (base : ℕ) (s : FileSystem) (r : Result (Unit {0}) NotMade) (after : FileSystem) → MakesWay (calls_of F h) modes path base s r after → Paves h path (is_ok r) after base s
 paves {I} {O} {F} h path base s r after (places.all_made at m slash is) = paves_from {F = F} h path base s (is_ok r) after at after m (all_paved slash (ap is_ok is) refl)
 paves {I} {O} {F} h path base s r after (places.not_all at size e mid m slash has is) =
     paves_from {F = F} h path base s (is_ok r) after at mid m (fails size slash (had {F = F} h (take (at + size) path) mid (Err e) after has) (ap is_ok is))

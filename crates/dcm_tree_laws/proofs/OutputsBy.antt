@@ -41,7 +41,8 @@ use Rattle.dcm_tree_laws.proofs.Seen.{IsUnder, IsLine, Saw, seen, walk_seen, lis
 use Rattle.dcm_tree_laws.proofs.SoFar.{trees_of, Adds, later_state}
 use Rattle.dcm_tree_laws.proofs.Steps.{idle, Steps, no_step}
 use Rattle.dcm_tree_laws.proofs.Walks.{VisitsDo, walks_do}
-use Rattle.dcm_tree_laws.proofs.Written.{FileGives, always_gives}
+use Rattle.dcm_tree_laws.proofs.Filling.{always_gives}
+use Rattle.dcm_tree_laws.proofs.Written.{FileGives}
 use Rattle.dcm_tree_laws.proofs.WrittenBy.{name_out}
 
 -- ---- an output stays

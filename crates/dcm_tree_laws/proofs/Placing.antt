@@ -1,26 +1,29 @@
 -- The name that a part gets, and the file that it is compared with, are determined by what is in the folder of the outputs.
-use Rattle.std.proofs.Common.{◌≡◌, ◌∙◌, refl, sym, ap, subst, ℕ, ◌≤◌, List, [], ◌∷◌, ◌++◌, length, Bool, true, false, Option, Some, None, Result, Ok, Err, arith}
+use Rattle.std.proofs.Common.{◌≡◌, ◌∙◌, refl, sym, ap, subst, ℕ, ◌≤◌, List, [], ◌++◌, length, Bool, true, false, Option, Some, None, Result, Ok, Err, arith}
 use Rattle.std.specs.Prelude.{◌≢◌}
 use Rattle.std.specs.Str.{IsUtf8}
+use Rattle.std.proofs.lemmas.List.{append-nil}
+use Rattle.dcm_lemmas.proofs.Options.{one_value}
+use Rattle.dcm_lemmas.proofs.Truth.{true_false}
 use Rattle.dcm_base.specs.Reading.Reads.{INPUT_LIMIT}
 use Rattle.dcm_devices.specs.Writing.{Writer}
 use Rattle.dcm_files.specs.declared.folders.Found.{Found}
-use Rattle.dcm_files.specs.declared.folders.FoundKind.{FoundKind}
-use Rattle.dcm_files.specs.declared.folders.FoundKind.TheVariants as kinds
 use Rattle.dcm_files.specs.declared.folders.Links.TheVariants.{Followed}
 use Rattle.dcm_instance.specs.Same as bytes
 use Rattle.dcm_cli.specs.Calls.{Reader}
 use Rattle.dcm_cli.specs.InputCalls.{How, to_end, Allows}
+use Rattle.dcm_tree_laws.proofs.Looking.{kind_taken}
 use Rattle.dcm_trees.specs.declared.part.Naming.{Naming}
 use Rattle.dcm_trees.specs.declared.part.Naming.TheVariants.{Linked, Moved, NotFree, Failed}
 use Rattle.dcm_trees.specs.declared.place.Place.{Place}
 use Rattle.dcm_trees.specs.declared.place.Place.TheVariants as place
 use Rattle.dcm_trees.specs.Instance as instance
 use Rattle.dcm_trees.specs.Instance.{ComparesFiles, FindsCopy, GivesFreeName, is_there}
+use Rattle.dcm_trees.specs.Modes.{Modes}
 use Rattle.dcm_trees.specs.Opening.{OpensFile}
 use Rattle.dcm_trees.specs.Part as parts
 use Rattle.dcm_trees.specs.Part.{MovesIfFree, GivesSecondName, GivesName, is_moved}
-use Rattle.dcm_trees.specs.Place.{place_at, is_free}
+use Rattle.dcm_trees.specs.Place.{is_free}
 use Rattle.dcm_tree_laws.specs.Determined.{FileAt, working_may, as_whole}
 use Rattle.dcm_tree_laws.specs.FileSystem.{FileSystem, Tree, Host, number_of, place_of as path_place, at_path, may_do, MakesLink}
 use Rattle.dcm_tree_laws.specs.Flows.{AreAlike, AlikeAt, SameOutputs}
@@ -30,9 +33,6 @@ use Rattle.dcm_tree_laws.proofs.Held.{GivesAll, Left, reads_left}
 use Rattle.dcm_tree_laws.proofs.Looking as looking
 use Rattle.dcm_tree_laws.proofs.Onwards.{calls_of, calls_quiet, Sight, unfit, fit, place_seen, Lands, Stands, stands, stands_once, IsFileAt, stands_there, Paves, paves, paves_keeps, OfOutputOn, Onward, paves_once, paved_way}
 use Rattle.dcm_tree_laws.proofs.Working.{IsOpened, is_opened, compared_same}
-
-true_false : {A : Type 0} (b : Bool) → b ≡ true → b ≡ false → A
-true_false b e f = absurd (cc)
 
 -- ---- the name is free
 
@@ -47,11 +47,6 @@ pub data LandsPart {I O : Type 0} (h : Host I O) (part path : List ℕ) (base : 
 pub data Gives {I O : Type 0} (h : Host I O) (part path : List ℕ) (base : ℕ) (before : FileSystem) (naming : Naming) (after : FileSystem) : Type 0 where
   not_free : (p : Place) → Stands h before.now path base p → is_free p ≡ false → naming ≡ NotFree p → after ≡ before → Gives h part path base before naming after
   was_free : (p : Place) (has : Bool) (mid : FileSystem) → Stands h before.now path base p → is_free p ≡ true → Paves h path has mid base before → LandsPart h part path base has mid naming after → Gives h part path base before naming after
-
-kind_taken : (kind : FoundKind) → is_free (place_at kind) ≡ true → ⊥
-kind_taken kinds.Folder e = absurd (cc)
-kind_taken kinds.File e = absurd (cc)
-kind_taken kinds.Other e = absurd (cc)
 
 -- where something is there, and all folders on the way are, the path is not free
 some_taken : {A U : Type 0} (o : Option Found) (seen : Result (Option Found) U) → o ≢ None → seen ≡ Ok o → is_free (place_seen seen) ≡ true → A
@@ -87,18 +82,18 @@ module _ {I O : Type 0} (F : Type 0) (h : Host I O) (r : Reader I) (w : Writer O
   gives_second f s mid naming after has made (parts.linked t fits call is) = linked refl fits call.0 is
   gives_second f s mid naming after has made (parts.not_linked e tried t fits call moves) = moves_if_free f s mid tried naming after made fits (call.1 has) call.0 moves
 
-  gives_name : (f : Found) (p : Place) (s : FileSystem) (naming : Naming) (after : FileSystem) → at_path h s.now part ≡ Some f → Stands h s.now path base p → is_free p ≡ true → GivesName (working_may h r w (may_do h)) (calls_of F h) part path base s naming after → Gives h part path base s naming after
+  gives_name : {modes : Modes} (f : Found) (p : Place) (s : FileSystem) (naming : Naming) (after : FileSystem) → at_path h s.now part ≡ Some f → Stands h s.now path base p → is_free p ≡ true → GivesName (working_may h r w (may_do h)) (calls_of F h) modes part path base s naming after → Gives h part path base s naming after
   gives_name f p s naming after at stand nf (parts.no_way e makes is) = was_free p false after stand nf (paves {F = F} h path base s (Err e) after makes) (no_way refl is refl)
   gives_name f p s naming after at stand nf (parts.on_its_way mid makes second) =
       let made : Paves h path true mid base s = paves {F = F} h path base s (Ok _) mid makes in
       let there : at_path h mid.now part ≡ Some f = (paves_keeps h path true mid base s made).there (path_place h part) f at in
       was_free p true mid stand nf made (gives_second f s mid naming after (λ none. some_none (at_path h mid.now part) f there none) made second)
 
-  pub gives : (f : Found) (s : FileSystem) (naming : Naming) (after : FileSystem) → at_path h s.now part ≡ Some f → GivesFreeName (working_may h r w (may_do h)) (calls_of F h) part path base s naming after → Gives h part path base s naming after
+  pub gives : {modes : Modes} (f : Found) (s : FileSystem) (naming : Naming) (after : FileSystem) → at_path h s.now part ≡ Some f → GivesFreeName (working_may h r w (may_do h)) (calls_of F h) modes part path base s naming after → Gives h part path base s naming after
   gives f s naming after at (instance.not_free p finds nf is) = not_free p (stands {F = F} h path base s p after finds) nf is (looking.finds (calls_of F h) (calls_quiet F h) path base s p after finds)
-  gives f s naming after at (instance.free p looked finds nf name) =
+  gives {modes} f s naming after at (instance.free p looked finds nf name) =
       let same : looked ≡ s = looking.finds (calls_of F h) (calls_quiet F h) path base s p looked finds in
-      gives_name f p s naming after at (stands {F = F} h path base s p looked finds) nf (subst (λ (x : FileSystem). GivesName (working_may h r w (may_do h)) (calls_of F h) part path base x naming after) same name)
+      gives_name f p s naming after at (stands {F = F} h path base s p looked finds) nf (subst (λ (x : FileSystem). GivesName (working_may h r w (may_do h)) (calls_of F h) modes part path base x naming after) same name)
 
 -- ---- what is so of one
 
@@ -132,9 +127,9 @@ there_is Moved e = absurd (cc)
 there_is Failed e = absurd (cc)
 there_is (NotFree place.There) e = refl
 there_is (NotFree place.Free) e = absurd (cc)
-there_is (NotFree place.Taken) e = absurd (cc)
+there_is (NotFree place.Barred) e = absurd (cc)
 
-same_place : (p q : Place) → NotFree p ≡ NotFree q → p ≡ q
+pub same_place : (p q : Place) → NotFree p ≡ NotFree q → p ≡ q
 same_place p q e = cc
 
 not_there : {A : Type 0} (naming other : Naming) → naming ≡ other → naming ≡ NotFree place.There → other ≢ NotFree place.There → A
@@ -232,14 +227,10 @@ gave_same : {first second : List ℕ} {first_how second_how : How} (same : Bool)
 gave_same true is answer = answer
 gave_same false is answer = absurd (cc)
 
-append_nothing : (bytes : List ℕ) → bytes ++ [] ≡ bytes
-append_nothing [] = refl
-append_nothing (b ∷ bs) = ap (λ (rest : List ℕ). b ∷ rest) (append_nothing bs)
-
 all_given : {I O : Type 0} (h : Host I O) (input : I) (given : List ℕ) (how : How) → Left h input given how → how ≡ to_end → h.holds input ≡ given
 all_given h input given how left is =
     let none : left.rest ≡ [] = subst (λ (x : How). Allows x left.rest) is left.allowed in
-    left.whole ∙ ap (λ (rest : List ℕ). given ++ rest) none ∙ append_nothing given
+    left.whole ∙ ap (λ (rest : List ℕ). given ++ rest) none ∙ append-nil given
 
 -- two files that are found the same have the same bytes
 compared_alike : {I O : Type 0} (h : Host I O) (r : Reader I) (w : Writer O) → GivesAll h (as_whole h r) w → (first second : List ℕ) (s : FileSystem) (same : Bool) (after : FileSystem) → IsUtf8 first → IsUtf8 second → (f : FileAt h Followed s.now first) → (g : FileAt h Followed s.now second)
@@ -257,11 +248,8 @@ compared_alike h r w all first second s same after text too f g (instance.both o
     ∙ sym (all_given h other z.second z.second_how (reads_left h (as_whole h r) w all (bytes.InFront z.first) other c.second_left z.second z.second_how z.reads_second) gave.second_end)
     ∙ y.holds
 
-found_same : (o : Option Found) (f g : Found) → o ≡ Some f → o ≡ Some g → f ≡ g
-found_same o f g a b = cc
-
 bytes_by : {I O : Type 0} (h : Host I O) (t : Tree) (path : List ℕ) (f g : Found) → at_path h t path ≡ Some f → at_path h t path ≡ Some g → t.bytes (number_of f) ≡ t.bytes (number_of g)
-bytes_by h t path f g a b = ap (λ (x : Found). t.bytes (number_of x)) (found_same (at_path h t path) f g a b)
+bytes_by h t path f g a b = ap (λ (x : Found). t.bytes (number_of x)) (one_value (at_path h t path) f g a b)
 
 followed : {I O : Type 0} (h : Host I O) (t : Tree) (path : List ℕ) (f : IsFileAt h t path) → h.leads Followed path ≡ path_place h path → FileAt h Followed t path
 followed h t path f leads = record { file = f.found; is = ap t.at leads ∙ f.is; kind = f.kind }

@@ -9,6 +9,7 @@ use Rattle.dcm_tree_laws.specs.FileSystem.{Host, folders_do}
 -- they leave a system as it was
 pub record Quiet {S O F : Type 0} (d : FoldersDo S O F) : Type 0 where
   pub finds : (before : S) (path : List ℕ) (links : Links) (r : Result (Option Found) Error) (after : S) → d.finds before path links r after → after ≡ before
+  pub modes : (before : S) (folder name : List ℕ) (r : Result ℕ Error) (after : S) → d.modes before folder name r after → after ≡ before
   pub opens : (before : S) (path : List ℕ) (r : Result F Error) (after : S) → d.opens_folder before path r after → after ≡ before
   pub names : (before : S) (folder : F) (r : Result (Option (List ℕ)) Error) (left : F) (after : S) → d.names before folder r left after → after ≡ before
   pub closes : (before : S) (folder : F) (after : S) → d.closes_folder before folder after → after ≡ before
@@ -16,6 +17,7 @@ pub record Quiet {S O F : Type 0} (d : FoldersDo S O F) : Type 0 where
 pub are_quiet : {I O F : Type 0} (h : Host I O) → Quiet (folders_do {F = F} h)
 are_quiet h = record {
   finds = λ before path links r after call. call.1;
+  modes = λ before folder name r after call. call.1;
   opens = λ before path r after call. call;
   names = λ before folder r left after call. call;
   closes = λ before folder after call. call;

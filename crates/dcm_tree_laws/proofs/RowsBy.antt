@@ -1,7 +1,7 @@
 -- The manifest has a row for each name of a run's share that it visits.
 use Rattle.std.proofs.Common.{◌≡◌, ◌∙◌, refl, sym, ap, subst, ℕ, List, [], ◌∷◌, ◌++◌, Option, Some, None, Result, Ok}
 use Rattle.std.specs.Io.KnownBytes.{append_known}
-use Rattle.dcm_devices.proofs.Writes.Puts.{append_known_none, append_known_twice}
+use Rattle.dcm_lemmas.proofs.Options.{known_nothing, known_twice}
 use Rattle.dcm_devices.specs.Writing.{Writer}
 use Rattle.dcm_walk.specs.Visits.{Named}
 use Rattle.dcm_walk.specs.declared.visitor.Stopped.{Stopped}
@@ -47,7 +47,7 @@ same_manifest m a b headed text e is = ap m.contents e ∙ is
 
 pub one_more : {W : Type 0} (m : Writer W) (from to headed : W) (rows text : List ℕ) → m.contents to ≡ append_known (m.contents from) text → m.contents from ≡ append_known (m.contents headed) rows
     → m.contents to ≡ append_known (m.contents headed) (rows ++ text)
-one_more m from to headed rows text put is = put ∙ ap (λ (known : Option (List ℕ)). append_known known text) is ∙ append_known_twice (m.contents headed) rows text
+one_more m from to headed rows text put is = put ∙ ap (λ (known : Option (List ℕ)). append_known known text) is ∙ known_twice (m.contents headed) rows text
 
 -- ---- a visit
 
@@ -82,7 +82,7 @@ visit_rows w m shared headed Old New keep from told_before before n what r to to
 visit_rows w m shared headed Old New keep from told_before before n what r to told after make earlier visits more (spec.ends_run p s share does is ok) stop had = absurd (no_stop to.stop _ (ap (λ q. q.stop) is) stop)
 
 pub no_manifest : {W : Type 0} (m : Writer W) (start headed : W) → start ≡ headed → m.contents start ≡ append_known (m.contents headed) []
-no_manifest m start headed is = same_manifest m start headed headed [] is (sym (append_known_none (m.contents headed)))
+no_manifest m start headed is = same_manifest m start headed headed [] is (sym (known_nothing (m.contents headed)))
 
 pub no_rows : {W : Type 0} (m : Writer W) (IsSo : Visit → Done → Type 0) (shared : Shared) (headed start : W) → start ≡ headed → HasRows m IsSo shared headed [] start
 no_rows m IsSo shared headed start is = record { text = []; rows = no_visit refl refl; manifest_is = no_manifest m start headed is }

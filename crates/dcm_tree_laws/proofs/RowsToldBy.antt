@@ -1,6 +1,7 @@
 -- The rows of runs of all shares are told by what was there before the first of them.
-use Rattle.std.proofs.Common.{◌≡◌, ◌∙◌, refl, sym, ap, subst, inl, ℕ, List, Bool, true, false, None, Result, Ok}
+use Rattle.std.proofs.Common.{◌≡◌, ◌∙◌, refl, sym, ap, subst, inl, ℕ, List, true, false, None, Result, Ok}
 use Rattle.std.specs.Prelude.{◌≢◌}
+use Rattle.dcm_lemmas.proofs.Truth.{true_false}
 use Rattle.dcm_devices.specs.Writing.{Writer}
 use Rattle.dcm_walk.specs.Names.{below}
 use Rattle.dcm_walk.specs.Visits.{Named}
@@ -36,9 +37,6 @@ use Rattle.dcm_tree_laws.proofs.Telling.{Telling, rows_told}
 use Rattle.dcm_tree_laws.proofs.ToldBy.{fate_is_told}
 use Rattle.dcm_tree_laws.proofs.Working.{working_also, working_sure}
 use Rattle.dcm_tree_laws.proofs.Works as works
-
-true_false : {A : Type 0} (b : Bool) → b ≡ true → b ≡ false → A
-true_false b e f = absurd (cc)
 
 -- ---- names apart
 

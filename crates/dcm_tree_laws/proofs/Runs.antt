@@ -1,13 +1,13 @@
 -- A run over a tree is done by such steps.
 use Rattle.std.proofs.Common.{◌≡◌, ◌∙◌, refl, sym, ap, subst, ℕ, List, Bool, true, false, Option, Some, None, Result, Ok, Err}
 use Rattle.std.specs.declared.io.Error.{Error}
-use Rattle.arrayvec.specs.ArrayVec.{ArrayVec}
 use Rattle.dcm_devices.specs.Writing.{Writer}
 use Rattle.dcm_files.specs.Devices as devices
-use Rattle.dcm_files.specs.Devices.{OpensInput}
+use Rattle.dcm_files.specs.Devices.{MayDo, OpensInput}
 use Rattle.dcm_files.specs.Folders.{FoldersDo}
 use Rattle.dcm_files.specs.declared.folders.Links.{Links}
 use Rattle.dcm_files.specs.declared.folders.Links.TheVariants.{Kept, Followed}
+use Rattle.dcm_files.specs.declared.opened.FileKind.{FileKind}
 use Rattle.dcm_files.specs.declared.opened.Opened.{Opened}
 use Rattle.dcm_walk.specs.Names.{below}
 use Rattle.dcm_walk.specs.Visits.{Named}
@@ -21,22 +21,23 @@ use Rattle.dcm_trees.specs.declared.progress.Shared.{Shared}
 use Rattle.dcm_trees.specs.declared.progress.Work.{Work}
 use Rattle.dcm_trees.specs.declared.run.TreeRun.{TreeRun}
 use Rattle.dcm_trees.specs.Beginning as beginning
-use Rattle.dcm_trees.specs.Beginning.{Begins, IsPart}
+use Rattle.dcm_trees.specs.Beginning.{Begins}
 use Rattle.dcm_trees.specs.Manner.{Manner, manner_of}
 use Rattle.dcm_trees.specs.declared.beginning.Refusal.{Refusal}
+use Rattle.dcm_trees.specs.declared.beginning.Spared.{Spared}
 use Rattle.dcm_trees.specs.Run.{Shares}
 use Rattle.dcm_trees.specs.Task.{Task, task_of}
 use Rattle.dcm_trees.specs.Tree as spec
-use Rattle.dcm_trees.specs.Tree.{OpensFolder, OpensTree, VisitsAll, VisitsFolder, VisitsListed, VisitsList, DoesOpened, DoesFolder, DoesNames, DoesList, DoesTree, part_of}
+use Rattle.dcm_trees.specs.Tree.{OpensFolder, OpensTree, VisitsAll, VisitsFolder, VisitsListed, VisitsList, DoesOpened, DoesFolder, DoesNames, DoesList, DoesTree, part_of, spared_of, spared_with}
 use Rattle.dcm_trees.specs.Work as work
 use Rattle.dcm_trees.specs.Work.{Progress, progress, VisitsName, visits_of}
 use Rattle.dcm_tree_laws.specs.FileSystem.{FileSystem, Host, Tree, may_do, folders_do}
 use Rattle.dcm_tree_laws.specs.Halves.{IsOfSource, in_folder, in_list, links_of}
 use Rattle.dcm_tree_laws.specs.Laws.{IsOutput, over, part_path}
 use Rattle.dcm_tree_laws.specs.Stays.{IsOfOutput, itself}
-use Rattle.dcm_tree_laws.proofs.Beginnings.{begins_by}
+use Rattle.dcm_tree_laws.proofs.Beginnings.{begins_by, is_part}
 use Rattle.dcm_tree_laws.proofs.Below.{part_is_within}
-use Rattle.dcm_tree_laws.proofs.Files.{AreNames, IsAny, are_any, LeadsBelow, are_within, does_name_in, path_is}
+use Rattle.dcm_tree_laws.proofs.Files.{AreNames, IsAny, are_any, LeadsBelow, are_within, does_name_in}
 use Rattle.dcm_tree_laws.proofs.Filling.{always_gives}
 use Rattle.dcm_tree_laws.proofs.Gives.{FileGives}
 use Rattle.dcm_tree_laws.proofs.Lists.{lines_do}
@@ -160,17 +161,13 @@ module _ {I O F W E : Type 0} (h : Host I O) (IsWhole : List Tree → ℕ → Li
 
 -- ---- the part's path
 
-is_part : (output part : List ℕ) (path : ArrayVec ℕ) → IsPart output part (Ok path) → path.items ≡ below output part
-is_part output part path (beginning.fits other e is) = ap (λ (p : ArrayVec ℕ). p.items) (sym (same_ok (Ok path) path other refl is)) ∙ path_is output part other.items e
-is_part output part path (beginning.too_long e is) = absurd (cc)
-
-pub begun_part : {S O F : Type 0} (d : FoldersDo S O F) (input : List ℕ) (is_list : Bool) (output part : List ℕ) (continues : Bool) (before : S) (begun : Begun) (after : S) → Begins d input is_list output part continues before (Ok begun) after
-    → begun.part.items ≡ below output part
-begun_part d input is_list output part continues before begun after (beginning.no_output refusal has is) = absurd (cc)
-begun_part d input is_list output part continues before begun after (beginning.no_part number refusal has p is) = absurd (cc)
-begun_part d input is_list output part continues before begun after (beginning.has_part number path refusal mid has p c is) = absurd (cc)
-begun_part d input is_list output part continues before begun after (beginning.in_use number path refusal mid checked has p c u is) = absurd (cc)
-begun_part d input is_list output part continues before begun after (beginning.begun number path mid checked has p c u is) =
+pub begun_part : {S I O F E : Type 0} (may : MayDo S I O) (d : FoldersDo S O F) (e : Writer E) (input : List ℕ) (is_list : Bool) (output part : List ℕ) (continues : Bool) (spared : Spared) (from : E) (before : S) (begun : Begun) (to : E) (after : S)
+    → Begins may d e input is_list output part continues spared from before (Ok begun) to after → begun.part.items ≡ below output part
+begun_part may d e input is_list output part continues spared from before begun to after (beginning.no_output refusal has is silent) = absurd (cc)
+begun_part may d e input is_list output part continues spared from before begun to after (beginning.no_part number refusal has p is silent) = absurd (cc)
+begun_part may d e input is_list output part continues spared from before begun to after (beginning.has_part number path refusal mid has p c is) = absurd (cc)
+begun_part may d e input is_list output part continues spared from before begun to after (beginning.in_use number path refusal mid checked has p c u is) = absurd (cc)
+begun_part may d e input is_list output part continues spared from before begun to after (beginning.begun number path mid checked has p c u is) =
     ap (λ (b : Begun). b.part.items) (sym (same_ok (Ok begun) begun (record { number = number; part = path }) refl is)) ∙ is_part output part path p
 
 -- ---- a folder
@@ -189,19 +186,19 @@ at_part : {I O : Type 0} (h : Host I O) (IsWhole : List Tree → ℕ → List �
 at_part h IsWhole r w start run links In begun before after is goes = subst (λ (p : List ℕ). GoOn h links In IsWhole r w (task_of run.task) p run.output.now start before after) is goes
 
 -- the folder of the outputs is made, or is there
-begin : {I O F : Type 0} (h : Host I O) (IsWhole : List Tree → ℕ → List ℕ → Type 0) → Grows IsWhole → (start : Tree) (run : TreeRun) (input : List ℕ) (is_list : Bool) (before : FileSystem) (result : Result Begun Refusal) (after : FileSystem)
-    → Begins (folders_do {F = F} h) input is_list run.output.now (part_of run) run.options.continues before result after → RunCame h IsWhole (part_path run) run.output.now start before → RunCame h IsWhole (part_path run) run.output.now start after
-begin {I} {O} {F} h IsWhole grows start run input is_list before result after b came =
+begin : {I O F E : Type 0} (h : Host I O) (IsWhole : List Tree → ℕ → List ℕ → Type 0) → Grows IsWhole → (e : Writer E) (start : Tree) (run : TreeRun) (input : List ℕ) (is_list : Bool) (spared : Spared) (from : E) (before : FileSystem) (result : Result Begun Refusal) (to : E) (after : FileSystem)
+    → Begins (may_do {I = I} h) (folders_do {F = F} h) e input is_list run.output.now (part_of run) run.options.continues spared from before result to after → RunCame h IsWhole (part_path run) run.output.now start before → RunCame h IsWhole (part_path run) run.output.now start after
+begin {I} {O} {F} h IsWhole grows e start run input is_list spared from before result to after b came =
     further h IsWhole grows (part_path run) (IsOfOutput run.output.now) start (part_is_within run.output.now (part_path run) run.options.part.number refl) before after came
-    (begins_by {F = F} h (IsWhole (trees_of before)) (part_path run) run.output.now (IsOfOutput run.output.now) (itself refl) idle refl input is_list (part_of run) run.options.continues before result after b)
+    (begins_by {I = I} {F = F} h e (IsWhole (trees_of before)) (part_path run) run.output.now (part_of run) refl (IsOfOutput run.output.now) (itself refl) input is_list run.options.continues spared from before result to after b)
 
 module _ {I O F W E : Type 0} (h : Host I O) (IsWhole : List Tree → ℕ → List ℕ → Type 0) (grows : Grows IsWhole) (r : Reader I) (w : Writer O) (e : Writer E) (rows : Writer W) (start : Tree) (run : TreeRun) where
   does_opened : (path : List ℕ) (opened : F) (manifest : W) (from : E) (before : FileSystem) (status : ℕ) (left : W) (to : E) (after : FileSystem)
       → DoesOpened (over {F = F} h r w e) rows run path opened manifest from before status left to after → GoOn h Kept (IsUnder path) IsWhole r w (task_of run.task) (part_path run) run.output.now start before after
-  does_opened path opened manifest from before status left to after (spec.not_begun refusal tried b close refuses is) = λ of_output right came. still_there h IsWhole (part_path run) (IsOfOutput run.output.now) start tried after close (begin {F = F} h IsWhole grows start run path false before (Err refusal) tried b came)
-  does_opened path opened manifest from before status left to after (spec.was_begun begun mid b v) = λ of_output right came.
-      at_part h IsWhole r w start run Kept (IsUnder path) begun mid after (begun_part (folders_do {F = F} h) path false run.output.now (part_of run) run.options.continues before begun mid b)
-      (visits_folder {F = F} h IsWhole grows r w e rows start run path begun opened manifest from mid status left to after v) of_output right (begin {F = F} h IsWhole grows start run path false before (Ok begun) mid b came)
+  does_opened path opened manifest from before status left to after (spec.not_begun refusal told tried b close refuses is) = λ of_output right came. still_there h IsWhole (part_path run) (IsOfOutput run.output.now) start tried after close (begin {I = I} {F = F} h IsWhole grows e start run path false (spared_of run) from before (Err refusal) told tried b came)
+  does_opened path opened manifest from before status left to after (spec.was_begun begun told mid b v) = λ of_output right came.
+      at_part h IsWhole r w start run Kept (IsUnder path) begun mid after (begun_part (may_do {I = I} h) (folders_do {F = F} h) e path false run.output.now (part_of run) run.options.continues (spared_of run) from before begun told mid b)
+      (visits_folder {F = F} h IsWhole grows r w e rows start run path begun opened manifest told mid status left to after v) of_output right (begin {I = I} {F = F} h IsWhole grows e start run path false (spared_of run) from before (Ok begun) told mid b came)
 
   does_folder : (path : List ℕ) (manifest : W) (from : E) (before : FileSystem) (status : ℕ) (left : W) (to : E) (after : FileSystem)
       → DoesFolder (over {F = F} h r w e) rows run path manifest from before status left to after → GoOn h Kept (IsUnder path) IsWhole r w (task_of run.task) (part_path run) run.output.now start before after
@@ -220,19 +217,19 @@ opens_input h path before r after (devices.directory d e had is t call k back k2
 opens_input h path before r after (devices.opened d is t call k i) = call.0
 
 module _ {I O F W E : Type 0} (h : Host I O) (IsWhole : List Tree → ℕ → List ℕ → Type 0) (grows : Grows IsWhole) (r : Reader I) (w : Writer O) (e : Writer E) (rows : Writer W) (start : Tree) (run : TreeRun) where
-  does_names : (list : List ℕ) (input : I) (manifest : W) (from : E) (before : FileSystem) (status : ℕ) (left : W) (to : E) (after : FileSystem) (read : I)
-      → DoesNames (over {F = F} h r w e) rows run list input manifest from before status left to after read → GoOn h Followed IsLine IsWhole r w (task_of run.task) (part_path run) run.output.now start before after
-  does_names list input manifest from before status left to after read (spec.not_begun refusal b refuses l is) = λ of_output right came. begin {F = F} h IsWhole grows start run _ true before (Err refusal) after b came
-  does_names list input manifest from before status left to after read (spec.was_begun begun mid b v) = λ of_output right came.
-      at_part h IsWhole r w start run Followed IsLine begun mid after (begun_part (folders_do {F = F} h) _ true run.output.now (part_of run) run.options.continues before begun mid b)
-      (visits_list {F = F} h IsWhole grows r w e rows start run list begun input manifest from mid status left to after read v) of_output right (begin {F = F} h IsWhole grows start run _ true before (Ok begun) mid b came)
+  does_names : (list : List ℕ) (kind : FileKind) (input : I) (manifest : W) (from : E) (before : FileSystem) (status : ℕ) (left : W) (to : E) (after : FileSystem) (read : I)
+      → DoesNames (over {F = F} h r w e) rows run list kind input manifest from before status left to after read → GoOn h Followed IsLine IsWhole r w (task_of run.task) (part_path run) run.output.now start before after
+  does_names list kind input manifest from before status left to after read (spec.not_begun refusal told b refuses l is) = λ of_output right came. begin {I = I} {F = F} h IsWhole grows e start run _ true (spared_with run list kind) from before (Err refusal) told after b came
+  does_names list kind input manifest from before status left to after read (spec.was_begun begun told mid b v) = λ of_output right came.
+      at_part h IsWhole r w start run Followed IsLine begun mid after (begun_part (may_do {I = I} h) (folders_do {F = F} h) e _ true run.output.now (part_of run) run.options.continues (spared_with run list kind) from before begun told mid b)
+      (visits_list {F = F} h IsWhole grows r w e rows start run list begun input manifest told mid status left to after read v) of_output right (begin {I = I} {F = F} h IsWhole grows e start run _ true (spared_with run list kind) from before (Ok begun) told mid b came)
 
   does_list : (path : List ℕ) (manifest : W) (from : E) (before : FileSystem) (status : ℕ) (left : W) (to : E) (after : FileSystem)
       → DoesList (over {F = F} h r w e) rows run path manifest from before status left to after → GoOn h Followed IsLine IsWhole r w (task_of run.task) (part_path run) run.output.now start before after
   does_list path manifest from before status left to after (spec.not_opened error o told s l) = λ of_output right came. still_there h IsWhole (part_path run) (IsOfOutput run.output.now) start before after (opens_input {I = I} h path before (Err error) after o) came
   does_list path manifest from before status left to after (spec.was_opened o read mid done opens does back) = λ of_output right came.
       still_there h IsWhole (part_path run) (IsOfOutput run.output.now) start done after back
-      (does_names path o.device manifest from mid status left to done read does of_output right (still_there h IsWhole (part_path run) (IsOfOutput run.output.now) start before mid (opens_input {I = I} h path before (Ok o) mid opens) came))
+      (does_names path o.kind o.device manifest from mid status left to done read does of_output right (still_there h IsWhole (part_path run) (IsOfOutput run.output.now) start before mid (opens_input {I = I} h path before (Ok o) mid opens) came))
 
   -- ---- a run
 

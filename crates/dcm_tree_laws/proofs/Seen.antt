@@ -1,14 +1,15 @@
 -- Each file that a walk visits was seen at its path when it is visited, with its mode.
 use Rattle.std.proofs.Common.{◌≡◌, ◌∙◌, refl, sym, ap, subst, ℕ, zero, suc, ◌+◌, List, ◌++◌, length, take, drop, Bool, true, false, Option, Some, None, Result, Ok, Err, arith, append_assoc, length-append}
 use Rattle.std.specs.Prelude.{◌||◌, codes, not, nat_lt, if◌then◌else◌}
-use Rattle.std.proofs.Math.Seq.{drop-append_seam}
 use Rattle.std.proofs.lemmas.Bool.{ltb-false}
 use Rattle.std.proofs.lemmas.List.{take_all}
+use Rattle.dcm_lemmas.proofs.Options.{some_same}
 use Rattle.dcm_files.specs.declared.folders.Found.{Found}
 use Rattle.dcm_files.specs.declared.folders.FoundKind.{FoundKind}
 use Rattle.dcm_files.specs.declared.folders.FoundKind.TheVariants as kinds
 use Rattle.dcm_files.specs.declared.folders.Links.{Links}
 use Rattle.dcm_files.specs.declared.folders.Links.TheVariants.{Kept, Followed}
+use Rattle.dcm_tree_laws.proofs.OneParts.{past_root}
 use Rattle.dcm_walk.specs.Folder as walk
 use Rattle.dcm_walk.specs.Folder.{IsFit, IsJudged, DoesNamed, Listed, DoesNames, DoesFolder, Enters, EntersAt, EntryAt, WalksFolder, named_at, LEVELS}
 use Rattle.dcm_walk.specs.List as lists
@@ -85,15 +86,11 @@ found_saw h links In n found before looked under fit kind call = λ mode is. rec
 
 -- ---- a folder
 
--- a path behind that of the folder
-behind_root : (root relative : List ℕ) → drop (length root + 1) (below root relative) ≡ relative
-behind_root root relative = ap (λ (n : ℕ). drop n (below root relative)) (sym (length-append root (codes "/"))) ∙ drop-append_seam (root ++ codes "/") relative
-
 reached : (root path relative : List ℕ) (base : ℕ) → base ≡ length root + 1 → path ≡ below root relative → IsReached root (named_at base path)
 reached root path relative base at is = (
   relative,
   is,
-  ap (take NAME_LIMIT) (ap (λ (n : ℕ). drop n path) at ∙ ap (drop (length root + 1)) is ∙ behind_root root relative),
+  ap (take NAME_LIMIT) (ap (λ (n : ℕ). drop n path) at ∙ ap (drop (length root + 1)) is ∙ past_root root relative),
 )
 
 not_long : (long leads : Bool) → (long || not leads) ≡ false → long ≡ false
@@ -195,14 +192,11 @@ mode_if : (b : Bool) (kind : FoundKind) (mode other : ℕ) → (if b then whats.
 mode_if true kind mode other e = absurd (cc)
 mode_if false kind mode other e = mode_at kind mode other e
 
-some_what : (a b : What) → Some a ≡ Some b → a ≡ b
-some_what a b e = cc
-
 module _ {I O V : Type 0} (F : Type 0) (h : Host I O) (visits : Visits V FileSystem) where
   on_the_way : (output : FolderNumber) (n : Named) (before : FileSystem) (wrong : Option What) (what : What) (after : FileSystem) → wrong ≡ Some what → LooksAlong (folders_do {F = F} h) output n.relative before wrong after → Saw h Followed IsLine after n what
   on_the_way output n before wrong what after w (lists.with_none at o slash is) = absurd (cc)
   on_the_way output n before wrong what after w (lists.with_one at size found other mid o slash s wrong_is is) =
-      none_saw h Followed IsLine after n what (λ mode e. wrong_not output found other mode wrong_is (some_what other what (sym is ∙ w) ∙ e))
+      none_saw h Followed IsLine after n what (λ mode e. wrong_not output found other mode wrong_is (some_same other what (sym is ∙ w) ∙ e))
 
   at_its_end : (output : FolderNumber) (n : Named) (found : Option Found) (before after : FileSystem) (what : What) → IsLine n → IsFit n → what ≡ what_of output found → lists.Sees (folders_do {F = F} h) n.path before found after → Saw h Followed IsLine after n what
   at_its_end output n None before after what line fit is s = none_saw h Followed IsLine after n what (λ mode e. absurd (let no : whats.Unseen ≡ whats.File mode = sym is ∙ e in cc))

@@ -1,6 +1,7 @@
 -- Each output that a row says was written is that of a single run.
-use Rattle.std.proofs.Common.{◌≡◌, ◌∙◌, refl, sym, ap, subst, ℕ, ℤ, List, [], ◌++◌, Bool, true, Option, Some, Ok}
+use Rattle.std.proofs.Common.{◌≡◌, ◌∙◌, refl, sym, ap, subst, ℕ, ℤ, List, [], ◌++◌, Bool, true, Some, Ok}
 use Rattle.std.specs.Prelude.{◌≢◌}
+use Rattle.dcm_lemmas.proofs.Options.{one_value}
 use Rattle.dcm_devices.specs.Writing.{Writer}
 use Rattle.dcm_files.specs.declared.folders.Found.{Found}
 use Rattle.dcm_files.specs.declared.folders.FoundKind.TheVariants as kinds
@@ -45,16 +46,13 @@ use Rattle.dcm_tree_laws.proofs.RowsBy.{HasRows, same_manifest}
 
 -- ---- what an input holds
 
-same_some : {A : Type 0} (o : Option A) (a b : A) → o ≡ Some a → o ≡ Some b → a ≡ b
-same_some o a b e f = cc
-
 -- one that was opened at a path holds the file there
 pub opens_holds : {I O : Type 0} (h : Host I O) (path : List ℕ) (s : FileSystem) (input : I) (opened : FileSystem) → OpensFile (may_do h) path s (Some input) opened → (read : Found) → s.now.at (h.leads Followed path) ≡ Some read → read.kind ≡ kinds.File
     → h.holds input ≡ s.now.bytes (number_of read)
 opens_holds h path s input opened (opening.no_text t is same) read at kind = absurd (cc)
 opens_holds h path s input opened (opening.not_opened e t call is) read at kind = absurd (cc)
 opens_holds h path s input opened (opening.a_folder o has t call folder back is) read at kind = absurd (cc)
-opens_holds h path s input opened (opening.opened o t call folder is) read at kind = ap h.holds (same_some (Some input) input o.device refl is) ∙ call.1 read at kind
+opens_holds h path s input opened (opening.opened o t call folder is) read at kind = ap h.holds (one_value (Some input) input o.device refl is) ∙ call.1 read at kind
 
 -- ---- its job
 
@@ -108,7 +106,7 @@ mode_since : {I O : Type 0} (h : Host I O) (links : Links) (In : Named → Type 
     → start.at (h.leads links n.path) ≡ Some read → h.leads links n.path ≢ place_of h part → h.masked mode ≡ h.masked read.mode
 mode_since h links In part n start s what mode still saw is read at apart =
     let x : SawFile h links In s n mode = saw mode is in
-    ap h.masked (sym x.mode_is ∙ ap (λ (f : Found). f.mode) (same_some (s.now.at (h.leads links n.path)) x.file read x.is (still.there (h.leads links n.path) read apart at)))
+    ap h.masked (sym x.mode_is ∙ ap (λ (f : Found). f.mode) (one_value (s.now.at (h.leads links n.path)) x.file read x.is (still.there (h.leads links n.path) read apart at)))
 
 single_right : {I O : Type 0} (h : Host I O) (r : Reader I) (w : Writer O) → GivesAll h r w → (links : Links) (In : Named → Type 0) (m : Manner) (start : Tree) → Right h links In (IsSingle h links m.part m.task start) r w m start
 single_right h r w all links In m start = λ n what mode s still saw is job mid f input opened o left made written ending new finished done. record {

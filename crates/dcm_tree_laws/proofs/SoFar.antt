@@ -5,8 +5,8 @@ use Rattle.dcm_tree_laws.specs.FileSystem.{FileSystem, Tree, Host, WasState, Num
 use Rattle.dcm_tree_laws.specs.Stays.{OfEach, OfEachSoFar, AlwaysSoFar}
 use Rattle.dcm_tree_laws.specs.Whole.{IsWholeAt, nothing, was_there, a_folder as is_folder, an_output, NoneHalf, NoneHalfSoFar}
 use Rattle.dcm_tree_laws.proofs.Both.{BothIn, each, after_steps}
-use Rattle.dcm_tree_laws.proofs.StaysBy.{NoFolder}
-use Rattle.dcm_tree_laws.proofs.Steps.{Phase, idle, whole, is_writing, StepIn, StepsIn, no_step, folder, part_made, filled, not_filled, named, moved, removed, left, not_removed, all_keep}
+use Rattle.dcm_tree_laws.proofs.StaysBy.{NoFolder, not_idle}
+use Rattle.dcm_tree_laws.proofs.Steps.{Phase, idle, is_writing, StepIn, StepsIn, no_step, folder, part_made, filled, not_filled, named, moved, removed, left, not_removed, all_keep}
 use Rattle.dcm_tree_laws.proofs.WholeBy.{no_folder}
 
 -- all trees that it had, the latest first
@@ -33,24 +33,21 @@ pieces_add : (trees : List Tree) (n : Number) (all : List ℕ) (before after : F
 pieces_add trees n all before after (no_piece same) adds = none_adds trees before after same adds
 pieces_add trees n all before after (and_piece mid front rest pieces is takes) adds = one_adds trees mid after (Some n) takes.notes (pieces_add trees n all before mid pieces adds)
 
-closes_add : (trees : List Tree) (now : Option Number) (all : List ℕ) (before after : FileSystem) → ClosesOutput now all before after → Adds trees before → Adds trees after
-closes_add trees (Some n) all before after closes adds = one_adds trees closes.last after None closes.notes (pieces_add trees n all before closes.last closes.pieces adds)
-closes_add trees None all before after same adds = none_adds trees before after same adds
+closes_add : (trees : List Tree) (now : Option Number) (all kept : List ℕ) (before after : FileSystem) → ClosesOutput now all kept before after → Adds trees before → Adds trees after
+closes_add trees (Some n) all kept before after closes adds = one_adds trees closes.last after None closes.notes (pieces_add trees n all before closes.last closes.pieces adds)
+closes_add trees None all kept before after same adds = none_adds trees before after same adds
 
 moves_add : {I O : Type 0} (h : Host I O) (part path : List ℕ) (trees : List Tree) (before after : FileSystem) → NoFolder h part before.now → MovesWhat h part path before after → Adds trees before → Adds trees after
 moves_add h part path trees before after no_folder (a_file moves) adds = one_adds trees before after before.written moves.notes adds
 moves_add h part path trees before after no_folder (same_file one other way from is number same) adds = none_adds trees before after same adds
 moves_add h part path trees before after no_folder (a_folder one is kind stays) adds = absurd (no_folder one is kind)
 
-not_idle : (bytes : List ℕ) → whole bytes ≡ idle → ⊥
-not_idle bytes e = absurd (cc)
-
 pub each_adds : {I O : Type 0} (h : Host I O) (IsWhole : ℕ → List ℕ → Type 0) (part : List ℕ) (Of : List ℕ → Type 0) (trees : List Tree) (at : Phase) (before : FileSystem) (then : Phase) (after : FileSystem)
     → (is_writing at ≡ false → at ≢ idle → NoFolder h part before.now) → StepIn h IsWhole part Of at before then after → Adds trees before → Adds trees after
-each_adds h IsWhole part Of trees at before then after none (folder path rest to makes same) adds = one_adds trees before after before.written makes.notes adds
+each_adds h IsWhole part Of trees at before then after none (folder path mode rest to makes same) adds = one_adds trees before after before.written makes.notes adds
 each_adds h IsWhole part Of trees at before then after none (part_made mode rest makes is) adds = one_adds trees before after (Some (number_of makes.made)) makes.notes adds
-each_adds h IsWhole part Of trees at before then after none (filled mode bytes was closes done is) adds = closes_add trees before.written bytes before after closes adds
-each_adds h IsWhole part Of trees at before then after none (not_filled mode bytes was closes is) adds = closes_add trees before.written bytes before after closes adds
+each_adds h IsWhole part Of trees at before then after none (filled mode bytes was closes done is) adds = closes_add trees before.written bytes bytes before after closes adds
+each_adds h IsWhole part Of trees at before then after none (not_filled mode bytes kept was closes is) adds = closes_add trees before.written bytes kept before after closes adds
 each_adds h IsWhole part Of trees at before then after none (named bytes path was to links same) adds = one_adds trees before after before.written links.notes adds
 each_adds h IsWhole part Of trees at before then after none (moved bytes path was to nothing_there moves is) adds =
     moves_add h part path trees before after (none (ap is_writing was) (λ e. not_idle bytes (sym was ∙ e))) moves adds

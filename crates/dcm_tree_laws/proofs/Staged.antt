@@ -1,5 +1,6 @@
 -- What runs of all shares leave of the output of one name.
 use Rattle.std.proofs.Common.{◌≡◌, ◌∙◌, refl, sym, ap, subst, inl, inr, ◌⊎◌, ℕ, ◌≤◌, ◌<◌, List, [], ◌∷◌, ◌++◌, Bool, true, false, Some, None, Result, Ok, Err, arith}
+use Rattle.dcm_lemmas.proofs.Truth.{true_false}
 use Rattle.dcm_devices.specs.Writing.{Writer}
 use Rattle.dcm_files.specs.declared.folders.Found.{Found}
 use Rattle.dcm_walk.specs.Names.{below}
@@ -27,27 +28,15 @@ use Rattle.dcm_tree_laws.specs.Laws.{part_path}
 use Rattle.dcm_tree_laws.specs.Rows.{Visit, noted}
 use Rattle.dcm_tree_laws.specs.Shares.{HasOneShare}
 use Rattle.dcm_tree_laws.specs.Together.{IsNoPart, Has, IsRunOf, Visited, in_folder, in_list, OneRun, Runs, no_run, and_run, IsSameAt, something}
-use Rattle.dcm_tree_laws.proofs.Fates.{Works}
+use Rattle.dcm_tree_laws.proofs.Fates.{Works, works_quiet}
 use Rattle.dcm_tree_laws.proofs.Frees.{KeepsAll, keeps_itself, then_keeps, Stepped}
-use Rattle.dcm_tree_laws.proofs.Left.{sure_quiet}
 use Rattle.dcm_tree_laws.proofs.Lists.{lines_do}
-use Rattle.dcm_tree_laws.proofs.Quiet.{Quiet, only_quiet, IsClosed, IsSame}
+use Rattle.dcm_tree_laws.proofs.Quiet.{only_quiet, IsClosed, IsSame}
 use Rattle.dcm_tree_laws.proofs.RowsBy.{visit_of, no_stop}
 use Rattle.dcm_tree_laws.proofs.SharesBy.{one_share}
 use Rattle.dcm_tree_laws.proofs.Stages.{name_leaves, name_keeps}
 use Rattle.dcm_tree_laws.proofs.StillBy.{before_all, last_of_all}
 use Rattle.dcm_tree_laws.proofs.Walks.{VisitsDo, walks_do}
-
-true_false : {A : Type 0} (b : Bool) → b ≡ true → b ≡ false → A
-true_false b e f = absurd (cc)
-
-pub works_quiet : {I O F : Type 0} (h : Host I O) → Quiet (Works {F = F} h)
-works_quiet {I} {O} {F} h = record {
-  finds = λ before path links r after call. (sure_quiet {F = F} h).finds before path links r after call;
-  opens = λ before path r after call. (sure_quiet {F = F} h).opens before path r after call;
-  names = λ before folder r left after call. (sure_quiet {F = F} h).names before folder r left after call;
-  closes = λ before folder after call. (sure_quiet {F = F} h).closes before folder after call;
-}
 
 -- ---- the names so far
 

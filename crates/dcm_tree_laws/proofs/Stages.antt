@@ -2,7 +2,9 @@
 use Rattle.std.proofs.Common.{◌≡◌, ◌∙◌, refl, sym, ap, subst, inl, inr, ◌⊎◌, ℕ, List, Bool, true, false, None, Result, Ok}
 use Rattle.std.specs.Prelude.{◌≢◌}
 use Rattle.std.specs.Str.{IsUtf8}
+use Rattle.dcm_lemmas.proofs.Truth.{true_false}
 use Rattle.dcm_devices.specs.Writing.{Writer}
+use Rattle.dcm_tree_laws.proofs.Left.{same_mode}
 use Rattle.dcm_walk.specs.Names.{below}
 use Rattle.dcm_walk.specs.Visits.{Named}
 use Rattle.dcm_walk.specs.declared.visitor.What.{What}
@@ -52,9 +54,6 @@ pub record Settled {I O : Type 0} (h : Host I O) (task : Task) (output relative 
 -- it is free, or was done
 abbrev pub Stage : {I O : Type 0} → Host I O → Task → (output relative : List ℕ) → (mode : ℕ) → (bytes : List ℕ) → Tree → Type 0
 Stage h task output relative mode bytes t = IsFree h output relative t ⊎ Settled h task output relative mode bytes t
-
-true_false : {A : Type 0} (b : Bool) → b ≡ true → b ≡ false → A
-true_false b e f = absurd (cc)
 
 -- the mode and the bytes that are asked of it
 abbrev Whole : {I O : Type 0} → Host I O → Task → (mode : ℕ) → (bytes : List ℕ) → (its_mode : ℕ) → (its_bytes : List ℕ) → Type 0
@@ -136,9 +135,6 @@ aside_not : {I O : Type 0} (h : Host I O) (output : List ℕ) (x : Visit) (n : N
 aside_not h output x n what a is = a.place (ap (λ (v : Visit). place_of h (below output v.named.relative)) (sym is))
 
 -- ---- a name that is done
-
-same_mode : (a b : ℕ) → File a ≡ File b → a ≡ b
-same_mode a b is = cc
 
 module _ {I O : Type 0} (h : Host I O) (r : Reader I) (w : Writer O) (k : Manner) (number : ℕ) (part_is : k.part ≡ below k.output (part_name number)) where
   pub of_output : IsNear k.output k.part

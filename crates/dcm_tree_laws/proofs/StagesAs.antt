@@ -3,6 +3,8 @@ use Rattle.std.proofs.Common.{◌≡◌, ◌∙◌, refl, sym, ap, subst, inl, i
 use Rattle.std.specs.Prelude.{◌≢◌}
 use Rattle.std.specs.Str.{IsUtf8}
 use Rattle.arrayvec.specs.ArrayVec.{ArrayVec}
+use Rattle.dcm_lemmas.proofs.Options.{one_value, one_value as same_vec}
+use Rattle.dcm_lemmas.proofs.Truth.{true_false}
 use Rattle.dcm_devices.specs.Writing.{Writer}
 use Rattle.dcm_files.specs.declared.folders.Found.{Found}
 use Rattle.dcm_files.specs.declared.folders.FoundKind.TheVariants as kinds
@@ -56,20 +58,11 @@ beside_as_kept h task output mode out uids t u keeps v (not_named bytes has none
 beside_as_kept h task output mode out uids t u keeps v (same_named bytes other is index has names same) = same_named bytes other is index (bytes_kept h output t u v bytes keeps has) names same
 beside_as_kept h task output mode out uids t u keeps v (other_named bytes its other has names a b) = other_named bytes its other (bytes_kept h output t u v bytes keeps has) names a b
 
-true_false : {A : Type 0} (b : Bool) → b ≡ true → b ≡ false → A
-true_false b e f = absurd (cc)
-
-same_some : (o : Option Found) (a b : Found) → o ≡ Some a → o ≡ Some b → a ≡ b
-same_some o a b e f = cc
-
 pub same_bytes : {I O : Type 0} (h : Host I O) (output : List ℕ) (t : Tree) (v : Visit) (a b : List ℕ) → HasBytes h output t v a → HasBytes h output t v b → a ≡ b
-same_bytes h output t v a b x y = sym x.bytes_are ∙ ap (λ (f : Found). t.bytes (number_of f)) (same_some (t.at (h.leads Followed v.named.path)) x.file.file y.file.file x.file.is y.file.is) ∙ y.bytes_are
+same_bytes h output t v a b x y = sym x.bytes_are ∙ ap (λ (f : Found). t.bytes (number_of f)) (one_value (t.at (h.leads Followed v.named.path)) x.file.file y.file.file x.file.is y.file.is) ∙ y.bytes_are
 
 none_some : {A : Type 0} (o : Option (ArrayVec ℕ)) (a : ArrayVec ℕ) → o ≡ None → o ≡ Some a → A
 none_some o a e f = absurd (cc)
-
-same_vec : (o : Option (ArrayVec ℕ)) (a b : ArrayVec ℕ) → o ≡ Some a → o ≡ Some b → a ≡ b
-same_vec o a b e f = cc
 
 module _ {I O : Type 0} (h : Host I O) (output relative : List ℕ) (mode : ℕ) (out : List ℕ) (no_part : IsNoPart h output (place_of h (below output relative))) (t u : Tree) (keeps : KeepsAll h output t u) where
   written_kept : IsWrittenAs h output relative mode out t → IsWrittenAs h output relative mode out u

@@ -116,22 +116,22 @@ took_pieces h part Of start before n all after held apart (no_piece e) = subst (
 took_pieces h part Of start before n all after held apart (and_piece mid front rest pieces is takes) =
     took h part Of start mid after n front (Some n) (took_pieces h part Of start before n all mid held apart pieces) takes.fills takes.names takes.notes apart
 
-took_all : {I O : Type 0} (h : Host I O) (part : List ℕ) (Of : List ℕ → Type 0) (start : Tree) (before after : FileSystem) (n : Number) (all : List ℕ)
-    → Held h part Of start before → IsApart h part start n → Closes n all before after → Held h part Of start after
-took_all h part Of start before after n all held apart closes =
-    took h part Of start closes.last after n all None (took_pieces h part Of start before n all closes.last held apart closes.pieces) closes.fills closes.names closes.notes apart
+took_all : {I O : Type 0} (h : Host I O) (part : List ℕ) (Of : List ℕ → Type 0) (start : Tree) (before after : FileSystem) (n : Number) (all kept : List ℕ)
+    → Held h part Of start before → IsApart h part start n → Closes n all kept before after → Held h part Of start after
+took_all h part Of start before after n all kept held apart closes =
+    took h part Of start closes.last after n kept None (took_pieces h part Of start before n all closes.last held apart closes.pieces) closes.fills closes.names closes.notes apart
 
-closed_quiet : (n : Number) (all : List ℕ) (before after : FileSystem) → Closes n all before after → after.written ≡ None
-closed_quiet n all before after closes = closes.notes.written_is
+closed_quiet : (n : Number) (all kept : List ℕ) (before after : FileSystem) → Closes n all kept before after → after.written ≡ None
+closed_quiet n all kept before after closes = closes.notes.written_is
 
 same_number : (a b : Number) → Some a ≡ Some b → b ≡ a
 same_number a b e = cc
 
 -- its Of was closed
-closed : {I O : Type 0} (h : Host I O) (part : List ℕ) (Of : List ℕ → Type 0) (start : Tree) (mode : ℕ) (before after : FileSystem) (now : Option Number) (all : List ℕ)
-    → Held h part Of start before → IsQuiet h part start (writing mode) now → ClosesOutput now all before after → Held h part Of start after × (after.written ≡ None)
-closed h part Of start mode before after (Some n) all held quiet closes = (took_all h part Of start before after n all held (subst (IsApart h part start) (same_number n quiet.0 quiet.1) quiet.2) closes, closed_quiet n all before after closes)
-closed h part Of start mode before after None all held quiet closes = absurd (cc)
+closed : {I O : Type 0} (h : Host I O) (part : List ℕ) (Of : List ℕ → Type 0) (start : Tree) (mode : ℕ) (before after : FileSystem) (now : Option Number) (all kept : List ℕ)
+    → Held h part Of start before → IsQuiet h part start (writing mode) now → ClosesOutput now all kept before after → Held h part Of start after × (after.written ≡ None)
+closed h part Of start mode before after (Some n) all kept held quiet closes = (took_all h part Of start before after n all kept held (subst (IsApart h part start) (same_number n quiet.0 quiet.1) quiet.2) closes, closed_quiet n all kept before after closes)
+closed h part Of start mode before after None all kept held quiet closes = absurd (cc)
 
 held : {I O : Type 0} (h : Host I O) (part : List ℕ) (Of : List ℕ → Type 0) (start : Tree) (at : Phase) (s : FileSystem) → Keeps h part Of start at s → Held h part Of start s
 held h part Of start at s keeps = record { stays = keeps.stays; earlier = keeps.earlier }
@@ -156,9 +156,9 @@ as_state h part Of start at s t is keeps = subst (Keeps h part Of start at) (sym
 leads_there : {I O : Type 0} (h : Host I O) (Of : List ℕ → Type 0) (path : List ℕ) → Of path → LeadsIn h Of (place_of h path)
 leads_there h Of path of_output = record { path = path; of_output = of_output; leads = refl }
 
-by_folder : {I O : Type 0} (h : Host I O) (part : List ℕ) (Of : List ℕ → Type 0) (start : Tree) (at : Phase) (before after : FileSystem) (path : List ℕ) → Of path → MakesFolder h path before after
+by_folder : {I O : Type 0} (h : Host I O) (part : List ℕ) (Of : List ℕ → Type 0) (start : Tree) (at : Phase) (before after : FileSystem) (path : List ℕ) (mode : ℕ) → Of path → MakesFolder h path mode before after
     → Keeps h part Of start at before → Keeps h part Of start at after
-by_folder h part Of start at before after path of_output makes keeps =
+by_folder h part Of start at before after path mode of_output makes keeps =
     renamed h part Of start at before after (place_of h path) (Some makes.made) keeps makes.puts makes.bytes makes.notes (inr makes.nothing) (leads_there h Of path of_output)
 
 by_part : {I O : Type 0} (h : Host I O) (part : List ℕ) (Of : List ℕ → Type 0) (start : Tree) (at : Phase) (before after : FileSystem) (mode : ℕ) → Of part → MakesFile h part mode before after
@@ -176,10 +176,10 @@ is_quiet h part start idle now rest none = none
 is_quiet h part start (writing mode) now rest none = absurd (cc)
 is_quiet h part start (whole bytes) now rest none = none
 
-by_closing : {I O : Type 0} (h : Host I O) (part : List ℕ) (Of : List ℕ → Type 0) (start : Tree) (mode : ℕ) (then : Phase) (before after : FileSystem) (all : List ℕ) → is_writing then ≡ false → ClosesOutput before.written all before after
+by_closing : {I O : Type 0} (h : Host I O) (part : List ℕ) (Of : List ℕ → Type 0) (start : Tree) (mode : ℕ) (then : Phase) (before after : FileSystem) (all kept : List ℕ) → is_writing then ≡ false → ClosesOutput before.written all kept before after
     → Keeps h part Of start (writing mode) before → Keeps h part Of start then after
-by_closing h part Of start mode then before after all rest closes keeps =
-    let does : Held h part Of start after × (after.written ≡ None) = closed h part Of start mode before after before.written all (held h part Of start (writing mode) before keeps) keeps.quiet closes in
+by_closing h part Of start mode then before after all kept rest closes keeps =
+    let does : Held h part Of start after × (after.written ≡ None) = closed h part Of start mode before after before.written all kept (held h part Of start (writing mode) before keeps) keeps.quiet closes in
     record { stays = does.0.stays; earlier = does.0.earlier; quiet = is_quiet h part start then after.written rest does.1 }
 
 by_link : {I O : Type 0} (h : Host I O) (part : List ℕ) (Of : List ℕ → Type 0) (start : Tree) (at : Phase) (before after : FileSystem) (path : List ℕ) → Of path → MakesLink h part path before after
@@ -230,7 +230,7 @@ by_move h part Of start at before after path of_output to nothing no_folder (a_f
 
 -- ---- all of them
 
-not_idle : (bytes : List ℕ) → whole bytes ≡ idle → ⊥
+pub not_idle : (bytes : List ℕ) → whole bytes ≡ idle → ⊥
 not_idle bytes e = absurd (cc)
 
 whole_rest : (then : Phase) (bytes : List ℕ) → then ≡ whole bytes → is_writing then ≡ false
@@ -241,14 +241,14 @@ idle_rest then e = ap is_writing e
 
 pub each_keeps : {I O : Type 0} (h : Host I O) (IsWhole : ℕ → List ℕ → Type 0) (part : List ℕ) (Of : List ℕ → Type 0) (start : Tree) → Of part → (at : Phase) (before : FileSystem) (then : Phase) (after : FileSystem)
     → (is_writing at ≡ false → at ≢ idle → NoFolder h part before.now) → StepIn h IsWhole part Of at before then after → Keeps h part Of start at before → Keeps h part Of start then after
-each_keeps h IsWhole part Of start of_output at before then after no_folder (folder path rest to makes same) keeps =
-    as_phase h part Of start at then after same (by_folder h part Of start at before after path to makes keeps)
+each_keeps h IsWhole part Of start of_output at before then after no_folder (folder path mode rest to makes same) keeps =
+    as_phase h part Of start at then after same (by_folder h part Of start at before after path mode to makes keeps)
 each_keeps h IsWhole part Of start of_output at before then after no_folder (part_made mode rest makes is) keeps =
     as_phase h part Of start (writing (h.masked mode)) then after is (by_part h part Of start at before after mode of_output makes keeps)
 each_keeps h IsWhole part Of start of_output at before then after no_folder (filled mode bytes was closes done is) keeps =
-    by_closing h part Of start mode then before after bytes (whole_rest then bytes is) closes (as_phase h part Of start at (writing mode) before (sym was) keeps)
-each_keeps h IsWhole part Of start of_output at before then after no_folder (not_filled mode bytes was closes is) keeps =
-    by_closing h part Of start mode then before after bytes (idle_rest then is) closes (as_phase h part Of start at (writing mode) before (sym was) keeps)
+    by_closing h part Of start mode then before after bytes bytes (whole_rest then bytes is) closes (as_phase h part Of start at (writing mode) before (sym was) keeps)
+each_keeps h IsWhole part Of start of_output at before then after no_folder (not_filled mode bytes kept was closes is) keeps =
+    by_closing h part Of start mode then before after bytes kept (idle_rest then is) closes (as_phase h part Of start at (writing mode) before (sym was) keeps)
 each_keeps h IsWhole part Of start of_output at before then after no_folder (named bytes path was to links same) keeps =
     as_phase h part Of start at then after same (by_link h part Of start at before after path to links keeps)
 each_keeps h IsWhole part Of start of_output at before then after no_folder (moved bytes path was to nothing moves is) keeps =

@@ -15,10 +15,10 @@ is_writing (writing mode) = true
 is_writing (whole bytes) = false
 
 pub data StepIn {I O : Type 0} (h : Host I O) (IsWhole : ℕ → List ℕ → Type 0) (part : List ℕ) (Of : List ℕ → Type 0) (at : Phase) (before : FileSystem) (then : Phase) (after : FileSystem) : Type 0 where
-  folder : (path : List ℕ) → is_writing at ≡ false → Of path → MakesFolder h path before after → then ≡ at → StepIn h IsWhole part Of at before then after
+  folder : (path : List ℕ) (mode : ℕ) → is_writing at ≡ false → Of path → MakesFolder h path mode before after → then ≡ at → StepIn h IsWhole part Of at before then after
   part_made : (mode : ℕ) → is_writing at ≡ false → MakesFile h part mode before after → then ≡ writing (h.masked mode) → StepIn h IsWhole part Of at before then after
-  filled : (mode : ℕ) (bytes : List ℕ) → at ≡ writing mode → ClosesOutput before.written bytes before after → IsWhole mode bytes → then ≡ whole bytes → StepIn h IsWhole part Of at before then after
-  not_filled : (mode : ℕ) (bytes : List ℕ) → at ≡ writing mode → ClosesOutput before.written bytes before after → then ≡ idle → StepIn h IsWhole part Of at before then after
+  filled : (mode : ℕ) (bytes : List ℕ) → at ≡ writing mode → ClosesOutput before.written bytes bytes before after → IsWhole mode bytes → then ≡ whole bytes → StepIn h IsWhole part Of at before then after
+  not_filled : (mode : ℕ) (bytes kept : List ℕ) → at ≡ writing mode → ClosesOutput before.written bytes kept before after → then ≡ idle → StepIn h IsWhole part Of at before then after
   named : (bytes path : List ℕ) → at ≡ whole bytes → Of path → MakesLink h part path before after → then ≡ at → StepIn h IsWhole part Of at before then after
   moved : (bytes path : List ℕ) → at ≡ whole bytes → Of path → (HasWay h before.now path → at_path h before.now path ≡ None) → MovesWhat h part path before after → then ≡ idle → StepIn h IsWhole part Of at before then after
   removed : is_writing at ≡ false → Removes h part before after → then ≡ idle → StepIn h IsWhole part Of at before then after

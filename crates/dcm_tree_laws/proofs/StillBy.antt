@@ -1,5 +1,6 @@
 -- A run that goes on with what is there leaves it, and all as it is where all outputs are there.
 use Rattle.std.proofs.Common.{◌≡◌, ◌∙◌, refl, sym, ap, subst, ℕ, List, [], ◌∷◌, ◌++◌, true, false, Option, None, Result, Ok, Err}
+use Rattle.dcm_lemmas.proofs.Options.{none_or_some}
 use Rattle.dcm_devices.specs.Writing.{Writer}
 use Rattle.dcm_files.specs.declared.folders.FoundKind.{FoundKind}
 use Rattle.dcm_walk.specs.Visits.{Named}
@@ -25,7 +26,6 @@ use Rattle.dcm_tree_laws.specs.FileSystem.{FileSystem, Tree, Host, place_of, at_
 use Rattle.dcm_tree_laws.specs.Laws.{IsOutput, part_path}
 use Rattle.dcm_tree_laws.specs.Rows.{Visit, noted}
 use Rattle.dcm_tree_laws.proofs.Near.{IsNear}
-use Rattle.dcm_tree_laws.proofs.Given.{none_some}
 use Rattle.dcm_tree_laws.proofs.Left.{sure_quiet, there_is_left}
 use Rattle.dcm_tree_laws.proofs.Lists.{lines_do}
 use Rattle.dcm_tree_laws.proofs.Noted.{walk_noted, list_noted}
@@ -43,7 +43,7 @@ abbrev pub at_stays : {I O : Type 0} (h : Host I O) (kind : FoundKind) (part pat
 at_stays h kind part path start now none still at = record {
   text = at.text;
   found = at.found;
-  is = still.there (place_of h path) at.found (λ e. none_some (start.at (place_of h part)) at.found none (ap start.at (sym e) ∙ at.is)) at.is;
+  is = still.there (place_of h path) at.found (λ e. none_or_some (start.at (place_of h part)) at.found none (ap start.at (sym e) ∙ at.is)) at.is;
   kind_is = at.kind_is;
 }
 
@@ -59,7 +59,8 @@ there_stays h part output relative start now none still there = record {
 pub sure_may : {I O F : Type 0} (h : Host I O) → Implies (sure (folders_do {F = F} h)) (folders_do {F = F} h)
 sure_may h = record {
   sees = λ before path links r after call. call.0;
-  folder = λ before path r after call. call;
+  modes = λ before folder name r after call. call.0;
+  folder = λ before path mode r after call. call;
   file = λ before path mode r after call. call;
   link = λ before from to r after call. call;
 }

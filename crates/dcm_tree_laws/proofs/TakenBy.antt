@@ -1,5 +1,5 @@
 -- Two files that differ only in what is taken end alike.
-use Rattle.std.proofs.Common.{◌≡◌, ◌∙◌, refl, sym, ap, subst, ℕ, ℤ, ◌≤◌, List, [], ◌∷◌, length, Bool, true, false}
+use Rattle.std.proofs.Common.{◌≡◌, ◌∙◌, refl, sym, ap, subst, ℕ, ℤ, ◌≤◌, List, [], ◌∷◌, length, Bool, true, false, arith}
 use Rattle.std.specs.Prelude.{◌&&◌, if◌then◌else◌}
 use Rattle.dcm_base.specs.File.MetaReads.{Meta}
 use Rattle.dcm_base.specs.Reading.Reads.{INPUT_LIMIT}
@@ -8,7 +8,7 @@ use Rattle.dcm_deid.specs.Alike.{moving}
 use Rattle.dcm_deid.specs.declared.fate.Options.{Options}
 use Rattle.dcm_devices.specs.Writing.{Writer}
 use Rattle.dcm_words.specs.Words.{Job, deidentify, with_days}
-use Rattle.dcm_cli.specs.Answer.{Answer, Source, unopened, file, alone, answer, output_of, shows_identity}
+use Rattle.dcm_cli.specs.Answer.{Answer, Source, unopened, file, alone, answer, output_of, shows_identity, status_of_lines}
 use Rattle.dcm_cli.specs.Calls.{Reader}
 use Rattle.dcm_cli.specs.ErrorLines.{pixels_line}
 use Rattle.dcm_cli.specs.Run.{Answered, verdict_of_source}
@@ -49,13 +49,16 @@ answered options reports key input a m set x =
       verdict_is = sym (ap (verdict_of_source job) x.source_is);
     }
 
-lines_by : (options : Options) (reports : Bool) (key input : List ℕ) (a : Answer) (m : Meta) (set : Front) → IsDeidentified options reports key input a m set → a.lines ≡ (if shows options reports key set then pixels_line else [])
-lines_by options reports key input a m set x = ap (λ (y : Answer). y.lines) (x.answers.answer_is ∙ ap (answer (deidentify options reports key)) x.source_is)
+abbrev status_by : (shown : Bool) → ℕ
+status_by shown = status_of_lines (if shown then pixels_line else [])
 
-same_shows : (one other : Bool) → (if one then pixels_line else []) ≡ (if other then pixels_line else []) → one ≡ other
+status_is : (options : Options) (reports : Bool) (key input : List ℕ) (a : Answer) (m : Meta) (set : Front) → IsDeidentified options reports key input a m set → a.status ≡ status_by (shows options reports key set)
+status_is options reports key input a m set x = ap (λ (y : Answer). y.status) (x.answers.answer_is ∙ ap (answer (deidentify options reports key)) x.source_is)
+
+same_shows : (one other : Bool) → status_by one ≡ status_by other → one ≡ other
 same_shows true true e = refl
-same_shows true false e = absurd (cc)
-same_shows false true e = absurd (cc)
+same_shows true false e = absurd (let no : 3 ≡ 0 = e in omega (arith, no))
+same_shows false true e = absurd (let no : 0 ≡ 3 = e in omega (arith, no))
 same_shows false false e = refl
 
 -- ---- two of them
@@ -75,7 +78,7 @@ answer_alike options reports key d e one other x =
     let job : Job = deidentify (moving options e) reports key in
     let same_answer : x.first ≡ x.second = nothing_flows_in_answers options reports key one other d e x.first x.second x.first_meta x.second_meta x.first_set x.second_set x.first_read x.second_read x.left x.alike in
     let alike : first_shows ≡ second_shows =
-    same_shows first_shows second_shows (sym (lines_by (moving options d) reports key one x.first x.first_meta x.first_set x.first_read) ∙ ap (λ (y : Answer). y.lines) same_answer ∙ lines_by (moving options e) reports key other x.second x.second_meta x.second_set x.second_read) in
+    same_shows first_shows second_shows (sym (status_is (moving options d) reports key one x.first x.first_meta x.first_set x.first_read) ∙ ap (λ (y : Answer). y.status) same_answer ∙ status_is (moving options e) reports key other x.second x.second_meta x.second_set x.second_read) in
     record {
       output = x.first.output;
       verdict = verdict_by first_shows;

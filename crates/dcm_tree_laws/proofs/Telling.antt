@@ -1,9 +1,11 @@
 -- The rows of several runs, where what is told of each name stays so until that is done.
-use Rattle.std.proofs.Common.{◌≡◌, ◌∙◌, refl, sym, ap, subst, inl, inr, ◌⊎◌, ℕ, List, [], ◌∷◌, ◌++◌, Bool, true, false, Option, None, Result, Ok}
+use Rattle.std.proofs.Common.{◌≡◌, ◌∙◌, refl, sym, ap, subst, inl, inr, ◌⊎◌, ℕ, List, [], ◌∷◌, ◌++◌, Bool, true, false, None, Result, Ok}
 use Rattle.std.specs.List.{concat}
 use Rattle.std.specs.Io.KnownBytes.{append_known}
 use Rattle.std.proofs.lemmas.Bool.{eqb-true}
+use Rattle.dcm_lemmas.proofs.Truth.{true_false}
 use Rattle.dcm_devices.specs.Writing.{Writer}
+use Rattle.dcm_tree_laws.proofs.CopiedBy.{row_as}
 use Rattle.dcm_walk.specs.Names.{below}
 use Rattle.dcm_walk.specs.Visits.{Named}
 use Rattle.dcm_walk.specs.declared.visitor.Stopped.{Stopped}
@@ -14,14 +16,13 @@ use Rattle.dcm_trees.specs.declared.file.Done.{Done}
 use Rattle.dcm_trees.specs.declared.progress.Shared.{Shared}
 use Rattle.dcm_trees.specs.declared.progress.Work.{Work}
 use Rattle.dcm_trees.specs.declared.run.TreeRun.{TreeRun}
-use Rattle.dcm_trees.specs.Fate.{word}
 use Rattle.dcm_trees.specs.File.{DoesName}
 use Rattle.dcm_trees.specs.Manner.{Manner}
 use Rattle.dcm_trees.specs.Run.{part_name}
 use Rattle.dcm_trees.specs.Share.{is_of}
 use Rattle.dcm_trees.specs.Task.{Task}
 use Rattle.dcm_trees.specs.Work as spec
-use Rattle.dcm_trees.specs.Work.{Progress, progress, VisitsName, row, output_of, visits_of}
+use Rattle.dcm_trees.specs.Work.{Progress, progress, VisitsName, row, visits_of}
 use Rattle.dcm_tree_laws.specs.Again.{OfAll}
 use Rattle.dcm_tree_laws.specs.Copies.{SameRow}
 use Rattle.dcm_tree_laws.specs.Determined.{as_whole, working}
@@ -32,18 +33,15 @@ use Rattle.dcm_tree_laws.specs.Rows.{Visit, noted}
 use Rattle.dcm_tree_laws.specs.Shares.{rows_in}
 use Rattle.dcm_tree_laws.specs.Together.{Has, IsRunOf, Visited, in_folder, in_list, OneRun, Runs, no_run, and_run}
 use Rattle.dcm_tree_laws.specs.Told.{EachTwo, AreOnce, EachRun}
-use Rattle.dcm_tree_laws.proofs.Fates.{Works}
+use Rattle.dcm_tree_laws.proofs.Fates.{Works, works_quiet}
 use Rattle.dcm_tree_laws.proofs.Frees.{KeepsAll, keeps_itself, then_keeps}
 use Rattle.dcm_tree_laws.proofs.Lists.{lines_do}
 use Rattle.dcm_tree_laws.proofs.Quiet.{only_quiet, IsClosed, IsSame}
 use Rattle.dcm_tree_laws.proofs.RowsBy.{HasRows, visit_of, visit_rows, no_rows, no_stop}
 use Rattle.dcm_tree_laws.proofs.SharesBy.{manifest_of_share}
-use Rattle.dcm_tree_laws.proofs.Staged.{works_quiet, stop_before, Of, quietly, Known, known, output_is, task_is}
+use Rattle.dcm_tree_laws.proofs.Staged.{stop_before, Of, quietly, Known, known, output_is, task_is}
 use Rattle.dcm_tree_laws.proofs.StillBy.{before_all, last_of_all}
 use Rattle.dcm_tree_laws.proofs.Walks.{VisitsDo, walks_do}
-
-true_false : {A : Type 0} (b : Bool) → b ≡ true → b ≡ false → A
-true_false b e f = absurd (cc)
 
 -- ---- names apart
 
@@ -125,9 +123,6 @@ first_good h m folder IsTold AreAside became headed start from before quiet is =
 }
 
 -- ---- the rows of a run
-
-pub row_as : (v : Visit) (done other : Done) → SameRow v.named done other → row v.named.name (output_of v.named done) (word done.fate) ≡ row v.named.name (output_of v.named other) (word other.fate)
-row_as v done other same = ap (λ (cell : Option (List ℕ)). row v.named.name cell (word done.fate)) same.output_is ∙ ap (row v.named.name (output_of v.named other)) same.word_is
 
 -- only the names of its share have rows
 its_rows : (shared : Shared) (became : Visit → Done) (visits : List Visit) (text : List ℕ) → RowsOf (Becomes shared became) shared visits text → RowsOf (λ v done. done ≡ became v) shared visits text

@@ -2,6 +2,7 @@
 use Rattle.std.proofs.Common.{◌≡◌, ◌∙◌, refl, sym, ap, subst, inl, inr, ℕ, List, length, Bool, true, false, Some, None, Ok}
 use Rattle.std.specs.Prelude.{nat_le, if◌then◌else◌}
 use Rattle.std.specs.Str.{IsUtf8}
+use Rattle.dcm_lemmas.proofs.Truth.{true_false}
 use Rattle.dcm_devices.specs.Writing.{Writer}
 use Rattle.dcm_files.specs.declared.folders.Links.TheVariants.{Followed}
 use Rattle.dcm_instance.specs.Uids.{Uids, instance_name}
@@ -25,7 +26,7 @@ use Rattle.dcm_tree_laws.specs.Rows.{Visit}
 use Rattle.dcm_tree_laws.specs.Single.{TellsAll}
 use Rattle.dcm_tree_laws.specs.Together.{HasOwnPlace, IsFree, IsAside, HasBytes, HasPlainParts, NamesInstance, IsInstanceOf, IsOpen, Runs, no_run, and_run}
 use Rattle.dcm_tree_laws.specs.Told.{EachRun}
-use Rattle.dcm_tree_laws.specs.ToldAs.{HasFileAt, IsToldAs, told_as_no_file, told_as_index, told_as_unnamed, told_as_free, told_as_there, told_as_occupied, HasNoOutput, none_of_no_file, none_of_index, none_of_unnamed, AreAsideAs, one_has_none, other_has_none, both_aside_as, RowsAreToldAs}
+use Rattle.dcm_tree_laws.specs.ToldAs.{HasFileAt, IsToldAs, told_as_no_file, told_as_index, told_as_unnamed, told_as_free, told_as_there, told_as_taken, HasNoOutput, none_of_no_file, none_of_index, none_of_unnamed, AreAsideAs, one_has_none, other_has_none, both_aside_as, RowsAreToldAs}
 use Rattle.dcm_tree_laws.proofs.EndsAs.{EndsTold, PlacedAs, ends_told, is_unnamed, is_placed}
 use Rattle.dcm_tree_laws.proofs.Fates.{Frees}
 use Rattle.dcm_tree_laws.proofs.FatesAs.{names_once}
@@ -37,9 +38,6 @@ use Rattle.dcm_tree_laws.proofs.Stages.{own, of_output, unchanged, index_same, n
 use Rattle.dcm_tree_laws.proofs.StagesAs.{same_bytes, free_unnamed, free_aside, by_bytes}
 use Rattle.dcm_tree_laws.proofs.Telling.{Telling, rows_told}
 use Rattle.dcm_tree_laws.proofs.Working.{whole_gives}
-
-true_false : {A : Type 0} (b : Bool) → b ≡ true → b ≡ false → A
-true_false b e f = absurd (cc)
 
 -- ---- names apart
 
@@ -90,7 +88,7 @@ module _ {I O F E : Type 0} (h : Host I O) (r : Reader I) (w : Writer O) (e : Wr
   told_row n what d from before done to after none (told_as_there mode bytes out uids x f fits fate_is named) does =
       let p : PlacedAs h k out uids x.named.verdict before.now done = placed n what mode bytes out uids from before done to after none x f.there.fits does in
       named_row n done d uids p.named named (p.there f fits ∙ sym fate_is)
-  told_row n what d from before done to after none (told_as_occupied mode bytes out its uids x f differ fate_is named) does =
+  told_row n what d from before done to after none (told_as_taken mode bytes out its uids x f differ fate_is named) does =
       let p : PlacedAs h k out uids x.named.verdict before.now done = placed n what mode bytes out uids from before done to after none x f.there.fits does in
       named_row n done d uids p.named named (p.other its f differ ∙ sym fate_is)
 
@@ -129,9 +127,9 @@ still_told h task output t u v d keeps frees (told_as_free mode bytes out uids x
 still_told h task output t u v d keeps frees (told_as_there mode bytes out uids x f fits fate_is named) =
     let now : HasFileAt h output (instance_name uids) u out = kept_file h output (instance_name uids) t u out keeps x.own f in
     told_as_there mode bytes out uids (kept_instance h task output t u v mode bytes out uids keeps (is_open_at h output (instance_name uids) u out now) x) now fits fate_is named
-still_told h task output t u v d keeps frees (told_as_occupied mode bytes out its uids x f differ fate_is named) =
+still_told h task output t u v d keeps frees (told_as_taken mode bytes out its uids x f differ fate_is named) =
     let now : HasFileAt h output (instance_name uids) u its = kept_file h output (instance_name uids) t u its keeps x.own f in
-    told_as_occupied mode bytes out its uids (kept_instance h task output t u v mode bytes out uids keeps (is_open_at h output (instance_name uids) u its now) x) now differ fate_is named
+    told_as_taken mode bytes out its uids (kept_instance h task output t u v mode bytes out uids keeps (is_open_at h output (instance_name uids) u its now) x) now differ fate_is named
 
 -- a name that has an output
 has_output_not : {I O : Type 0} (h : Host I O) (task : Task) (output : List ℕ) (first t : Tree) (v : Visit) (mode : ℕ) (bytes out : List ℕ) (uids : Uids) → KeepsAll h output first t → IsInstanceOf h task output t v mode bytes out uids → HasNoOutput h task output first v → ⊥

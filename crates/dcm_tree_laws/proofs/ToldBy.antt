@@ -1,6 +1,7 @@
 -- What becomes of a file whose output is free is told by its bytes.
-use Rattle.std.proofs.Common.{◌≡◌, ◌∙◌, refl, sym, ap, subst, ℕ, Bool, true, false, None, Result, Ok}
+use Rattle.std.proofs.Common.{◌≡◌, ◌∙◌, refl, sym, ap, subst, ℕ, true, None, Result, Ok}
 use Rattle.std.specs.Str.{IsUtf8}
+use Rattle.dcm_lemmas.proofs.Truth.{true_false}
 use Rattle.dcm_devices.specs.Writing.{Writer}
 use Rattle.dcm_walk.specs.Visits.{Named}
 use Rattle.dcm_walk.specs.declared.visitor.What.TheVariants.{File}
@@ -18,9 +19,6 @@ use Rattle.dcm_tree_laws.proofs.Fates.{Fated, fated}
 use Rattle.dcm_tree_laws.proofs.MadeBy.{its_own}
 use Rattle.dcm_tree_laws.proofs.Stages.{of_output, idle_at, own}
 use Rattle.dcm_tree_laws.proofs.Working.{whole_gives}
-
-true_false : {A : Type 0} (b : Bool) → b ≡ true → b ≡ false → A
-true_false b e f = absurd (cc)
 
 file_own : {S I O F E : Type 0} (w : World S I O F E) (m : Manner) (n : Named) (mode : ℕ) (from : E) (before : S) (result : Result Done RunStop) (to : E) (after : S) (done : Done) → m.keeps_names ≡ true → DoesFile w m n mode from before result to after → result ≡ Ok done → done.instance ≡ None
 file_own w m n mode from before result to after done keeps (files.an_index index told is same) ok = its_own (Ok fates.MediaIndex) result done is ok

@@ -1,5 +1,6 @@
 -- What a name of a run over a tree touches: the place of the part, folders on the way to its output, and that where it is written.
 use Rattle.std.proofs.Common.{◌≡◌, ◌∙◌, refl, sym, ap, subst, inl, inr, ◌⊎◌, ℕ, ◌+◌, ◌≤◌, List, [], length, take, Bool, true, false, Option, Some, None, Result, Ok, Err, arith}
+use Rattle.dcm_lemmas.proofs.Options.{one_value}
 use Rattle.dcm_devices.specs.Writing.{Writer}
 use Rattle.dcm_files.specs.declared.folders.Found.{Found}
 use Rattle.dcm_files.specs.declared.folders.FoundKind.TheVariants.{File, Folder}
@@ -20,17 +21,19 @@ use Rattle.dcm_trees.specs.File as files
 use Rattle.dcm_trees.specs.File.{DoesReady, DoesFree, DoesPlaced, DoesNamed, DoesFile, DoesName, under_its_name}
 use Rattle.dcm_trees.specs.Lines.{ending_fate}
 use Rattle.dcm_trees.specs.Manner.{Manner}
+use Rattle.dcm_trees.specs.Modes.{Modes}
 use Rattle.dcm_trees.specs.Part as parts
 use Rattle.dcm_trees.specs.Part.{MakesPart, RemovesPart, Fills, MovesPart, MovesIfFree, GivesSecondName, GivesName, ClearsPart, NamesOutput, FillsAndNames, naming_fate}
 use Rattle.dcm_trees.specs.Place as places
-use Rattle.dcm_trees.specs.Place.{HasFolder, AreMade, MakesWay}
+use Rattle.dcm_trees.specs.Place.{MakesNew, HasFolder, AreMade, MakesWay}
 use Rattle.dcm_tree_laws.specs.FileSystem.{FileSystem, Tree, Number, Host, place_of, at_path, may_do, folders_do, SameNames, MakesFolder, MakesFile, TakesPieces, no_piece, and_piece, ClosesOutput, MakesLink, MovesWhat, a_file, same_file, a_folder, Removes}
 use Rattle.dcm_tree_laws.specs.Laws.{IsOutput, over}
 use Rattle.dcm_tree_laws.proofs.Files.{path_is}
+use Rattle.dcm_tree_laws.proofs.Closing.{closes_kept, finished_of}
 use Rattle.dcm_tree_laws.proofs.Filling.{opens_file, part_is_made, part_is_new, part_is_not_made, is_filled_as, is_output}
-use Rattle.dcm_tree_laws.proofs.Given.{is_named, same_found, is_file}
+use Rattle.dcm_tree_laws.proofs.Given.{is_named, is_file}
 use Rattle.dcm_tree_laws.proofs.Jobs.{finds_job}
-use Rattle.dcm_tree_laws.proofs.Looking.{finds, finds_folder, same_ok}
+use Rattle.dcm_tree_laws.proofs.Looking.{finds, finds_folder, seeks_mode, same_ok}
 use Rattle.dcm_tree_laws.proofs.Making.{makes_way, beyond}
 use Rattle.dcm_tree_laws.proofs.Quiet.{are_quiet}
 use Rattle.dcm_tree_laws.proofs.Steps.{idle, writing, whole, quiet}
@@ -81,7 +84,7 @@ module _ {I O : Type 0} (h : Host I O) (part output relative : List ℕ) (IsName
   put t u at place may (inl e) = may e
   put t u at place may (inr e) = as_it_was e
 
-  folder_made : (path folder behind : List ℕ) → relative ≡ below folder behind → path ≡ below output folder → (before after : FileSystem) → MakesFolder h path before after → Touches h part output relative IsNamed before.now after.now
+  folder_made : {mode : ℕ} (path folder behind : List ℕ) → relative ≡ below folder behind → path ≡ below output folder → (before after : FileSystem) → MakesFolder h path mode before after → Touches h part output relative IsNamed before.now after.now
   folder_made path folder behind cut is before after made = λ place. put before.now after.now (place_of h path) place
       (λ e. at_folder made.made (record { folder = folder; behind = behind; cut = cut; is = e ∙ ap (place_of h) is }) (ap after.now.at e ∙ made.puts.there) made.kind) (made.puts.elsewhere place)
 
@@ -103,7 +106,7 @@ module _ {I O : Type 0} (h : Host I O) (part output relative : List ℕ) (IsName
   moved IsWhole named path is before after r (a_file m) = λ place. moved_place named path is before.now after.now place (m.elsewhere place)
   moved IsWhole named path is before after r (same_file one other way from to same e) = still before after e
   moved IsWhole named path is before after r (a_folder one at kind stays) =
-      absurd (is_file one (subst (λ (g : Found). g.kind ≡ File) (same_found (at_path h before.now part) r.file one r.is at) r.kind) kind)
+      absurd (is_file one (subst (λ (g : Found). g.kind ≡ File) (one_value (at_path h before.now part) r.file one r.is at) r.kind) kind)
 
   same_names : (t u : Tree) → SameNames t u → Touches h part output relative IsNamed t u
   same_names t u same = λ place. as_it_was (same place)
@@ -112,9 +115,9 @@ module _ {I O : Type 0} (h : Host I O) (part output relative : List ℕ) (IsName
   pieces n all before after (no_piece e) = still before after e
   pieces n all before after (and_piece mid front rest more is takes) = then_touches before.now mid.now after.now (pieces n all before mid more) (same_names mid.now after.now takes.names)
 
-  closed : (n : Option Number) (all : List ℕ) (before after : FileSystem) → ClosesOutput n all before after → Touches h part output relative IsNamed before.now after.now
-  closed (Some n) all before after c = then_touches before.now c.last.now after.now (pieces n all before c.last c.pieces) (same_names c.last.now after.now c.names)
-  closed None all before after c = still before after c
+  closed : (n : Option Number) (all kept : List ℕ) (before after : FileSystem) → ClosesOutput n all kept before after → Touches h part output relative IsNamed before.now after.now
+  closed (Some n) all kept before after c = then_touches before.now c.last.now after.now (pieces n all before c.last c.pieces) (same_names c.last.now after.now c.names)
+  closed None all kept before after c = still before after c
 
   pub removes : (before after : FileSystem) → RemovesPart (may_do {I = I} h) part before after → Touches h part output relative IsNamed before.now after.now
   removes before after (parts.no_text t e) = still before after e
@@ -137,21 +140,27 @@ weaker h part output relative A B t u so touches = λ place. by_place h part out
 -- ---- the folders on the way
 
 module _ {I O F : Type 0} (h : Host I O) (part output relative : List ℕ) (IsNamed : Type 0) where
-  has_folder : (path : List ℕ) → WayFolder output relative path → (before : FileSystem) (r : Result (Unit {0}) NotMade) (after : FileSystem) → HasFolder (folders_do {F = F} h) path before r after → Touches h part output relative IsNamed before.now after.now
-  has_folder path w before r after (places.no_text e t x same) = still h part output relative IsNamed before after same
-  has_folder path w before r after (places.made t call is) = folder_made h part output relative IsNamed path w.folder w.behind w.cut w.is before after call
-  has_folder path w before r after (places.was_there cause tried t call k f is) = still h part output relative IsNamed before after (finds_folder (folders_do {F = F} h) (are_quiet h) path tried true after f ∙ call)
-  has_folder path w before r after (places.no_folder cause e tried t call k f is) = still h part output relative IsNamed before after (finds_folder (folders_do {F = F} h) (are_quiet h) path tried false after f ∙ call)
-  has_folder path w before r after (places.not_made cause e t call k is) = still h part output relative IsNamed before after call
+  new_folder : (path : List ℕ) → WayFolder output relative path → (mode : ℕ) (before : FileSystem) (r : Result (Unit {0}) NotMade) (after : FileSystem) → MakesNew (folders_do {F = F} h) path mode before r after → Touches h part output relative IsNamed before.now after.now
+  new_folder path w mode before r after (places.no_text e t x same) = still h part output relative IsNamed before after same
+  new_folder path w mode before r after (places.made t call is) = folder_made h part output relative IsNamed path w.folder w.behind w.cut w.is before after call
+  new_folder path w mode before r after (places.was_there cause tried t call k f is) = still h part output relative IsNamed before after (finds_folder (folders_do {F = F} h) (are_quiet h) path tried true after f ∙ call)
+  new_folder path w mode before r after (places.no_folder cause e tried t call k f is) = still h part output relative IsNamed before after (finds_folder (folders_do {F = F} h) (are_quiet h) path tried false after f ∙ call)
+  new_folder path w mode before r after (places.not_made cause e t call k is) = still h part output relative IsNamed before after call
 
-  pub are_made : (path : List ℕ) → path ≡ below output relative → (base : ℕ) → length output + 1 ≤ base → (before : FileSystem) (at : ℕ) (after : FileSystem) → AreMade (folders_do {F = F} h) path base before at after → Touches h part output relative IsNamed before.now after.now
+  has_folder : {modes : Modes} {base : ℕ} (path : List ℕ) → WayFolder output relative path → (before : FileSystem) (r : Result (Unit {0}) NotMade) (after : FileSystem) → HasFolder (folders_do {F = F} h) modes path base before r after → Touches h part output relative IsNamed before.now after.now
+  has_folder path w before r after (places.there_already f is) = still h part output relative IsNamed before after (finds_folder (folders_do {F = F} h) (are_quiet h) path before true after f)
+  has_folder path w before r after (places.no_mode n e looked f m is) = still h part output relative IsNamed before after (seeks_mode (folders_do {F = F} h) (are_quiet h) path before looked (Err n) after f m)
+  has_folder path w before r after (places.has_mode mode looked seen f m new) =
+      then_touches h part output relative IsNamed before.now seen.now after.now (still h part output relative IsNamed before seen (seeks_mode (folders_do {F = F} h) (are_quiet h) path before looked (Ok mode) seen f m)) (new_folder path w mode seen r after new)
+
+  pub are_made : {modes : Modes} (path : List ℕ) → path ≡ below output relative → (base : ℕ) → length output + 1 ≤ base → (before : FileSystem) (at : ℕ) (after : FileSystem) → AreMade (folders_do {F = F} h) modes path base before at after → Touches h part output relative IsNamed before.now after.now
   are_made path is base least before at after (places.none_made a same) = still h part output relative IsNamed before after same
   are_made path is base least before at after (places.and_made from size mid more slash has a) =
       let far : base ≤ from = beyond {F = F} h path base before from mid more in
       then_touches h part output relative IsNamed before.now mid.now after.now (are_made path is base least before from mid more)
       (has_folder (take (from + size) path) (way_folder output relative path is from size (omega (arith, least, far)) slash) mid (Ok _) after has)
 
-  pub way_made : (path : List ℕ) → path ≡ below output relative → (base : ℕ) → length output + 1 ≤ base → (before : FileSystem) (r : Result (Unit {0}) NotMade) (after : FileSystem) → MakesWay (folders_do {F = F} h) path base before r after → Touches h part output relative IsNamed before.now after.now
+  pub way_made : {modes : Modes} (path : List ℕ) → path ≡ below output relative → (base : ℕ) → length output + 1 ≤ base → (before : FileSystem) (r : Result (Unit {0}) NotMade) (after : FileSystem) → MakesWay (folders_do {F = F} h) modes path base before r after → Touches h part output relative IsNamed before.now after.now
   way_made path is base least before r after (places.all_made at more slash e) = are_made path is base least before at after more
   way_made path is base least before r after (places.not_all at size e mid more slash has was) =
       let far : base ≤ at = beyond {F = F} h path base before at mid more in
@@ -191,7 +200,7 @@ module _ {I O F : Type 0} (h : Host I O) (IsWhole : ℕ → List ℕ → Type 0)
   second naming base start before after r (parts.not_linked e tried t u call m) =
       then_touches h part output relative (is_named naming ≡ true) before.now tried.now after.now (still h part output relative (is_named naming ≡ true) before tried call) (if_free naming base start tried after (then_steps r (quiet call)) m)
 
-  pub gives : (naming : Naming) (start before after : FileSystem) → IsReady h IsWhole part output bytes start before → GivesName (may_do {I = I} h) (folders_do {F = F} h) part path (length output + 1) before naming after
+  pub gives : {modes : Modes} (naming : Naming) (start before after : FileSystem) → IsReady h IsWhole part output bytes start before → GivesName (may_do {I = I} h) (folders_do {F = F} h) modes part path (length output + 1) before naming after
       → Touches h part output relative (is_named naming ≡ true) before.now after.now
   gives naming start before after r (parts.no_way e m n) = way_made {F = F} h part output relative (is_named naming ≡ true) path is (length output + 1) (omega arith) before (Err e) after m
   gives naming start before after r (parts.on_its_way has_way m g) =
@@ -221,7 +230,8 @@ By h m relative fate before after = Touches h m.part m.output relative (is_writt
 module _ {I O : Type 0} (h : Host I O) (r : Reader I) (w : Writer O) (m : Manner) (relative : List ℕ) where
   pub filled : (job : Job) (input : I) (output : O) (before : FileSystem) (ending : Ending) (after : FileSystem) (IsNamed : Type 0) → Fills (may_do h) r w job input output before ending after → Touches h m.part m.output relative IsNamed before.now after.now
   filled job input output before ending after IsNamed f =
-      then_touches h m.part m.output relative IsNamed before.now f.closed.now after.now (closed h m.part m.output relative IsNamed before.written (h.took f.written) before f.closed f.closes)
+      let closes = closes_kept before.written (h.took f.written) before f.closing f.closed f.closes in
+      then_touches h m.part m.output relative IsNamed before.now f.closed.now after.now (closed h m.part m.output relative IsNamed before.written (h.took f.written) closes.0 before f.closed closes.1)
       (still h m.part m.output relative IsNamed f.closed after f.releases)
 
 module _ {I O F E : Type 0} (h : Host I O) (r : Reader I) (w : Writer O) (e : Writer E) (m : Manner) (relative path : List ℕ) (is : path ≡ below m.output relative) where
@@ -240,7 +250,7 @@ module _ {I O F E : Type 0} (h : Host I O) (r : Reader I) (w : Writer O) (e : Wr
   fills job name mode input output new from start before fate to after i (parts.has_done ending was_filled told f done reports names) =
       then_touches h m.part m.output relative (is_written fate ≡ true) before.now was_filled.now after.now (filled h r w m relative job input output before ending was_filled (is_written fate ≡ true) f)
       (names_output name (h.took f.written) (ending_fate ending) told start was_filled fate to after done
-      (is_ready (h.took f.written) (more i (is_filled_as h (IsOutput h r w) r w m.part m.output (h.masked mode) job input output before ending was_filled f (is_output h r w mode job input f.left output f.written ending new f.finished done)))) names)
+      (is_ready (h.took f.written) (more i (is_filled_as h (IsOutput h r w) r w m.part m.output (h.masked mode) job input output before ending was_filled f done (is_output h r w mode job input f.left output f.written ending new (finished_of f done) done)))) names)
 
   readied : (job : Job) (n : Named) (mode : ℕ) (from : E) (before : FileSystem) (result : Result Fate RunStop) (to : E) (after : FileSystem) (fate : Fate) → IsIdle h (IsOutput h r w) m.part m.output idle before before
       → DoesReady (over {F = F} h r w e) job m n mode path from before result to after → result ≡ Ok fate → By h m relative fate before after

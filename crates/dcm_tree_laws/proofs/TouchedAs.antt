@@ -25,13 +25,14 @@ use Rattle.dcm_trees.specs.declared.part.Naming.{Naming}
 use Rattle.dcm_tree_laws.specs.FileSystem.{FileSystem, Host, may_do, folders_do}
 use Rattle.dcm_tree_laws.specs.Laws.{IsOutput, over}
 use Rattle.dcm_tree_laws.proofs.Files.{path_is}
+use Rattle.dcm_tree_laws.proofs.Closing.{finished_of}
 use Rattle.dcm_tree_laws.proofs.Filling.{opens_file, part_is_made, part_is_new, part_is_not_made, is_filled_as, is_output}
 use Rattle.dcm_tree_laws.proofs.Given.{is_named}
 use Rattle.dcm_tree_laws.proofs.Jobs.{finds_job, finds_instance, finds_copy}
 use Rattle.dcm_tree_laws.proofs.Looking.{finds, same_ok}
 use Rattle.dcm_tree_laws.proofs.Quiet.{are_quiet}
 use Rattle.dcm_tree_laws.proofs.Steps.{idle, writing, quiet}
-use Rattle.dcm_tree_laws.proofs.Touched.{Touches, then_touches, still, weaker, removes, clears, gives, filled, made_part, named_written}
+use Rattle.dcm_tree_laws.proofs.Touched.{Touches, then_touches, still, weaker, removes, clears, gives, filled, made_part, named_written, no_done}
 use Rattle.dcm_tree_laws.proofs.WholePart.{IsReady, then_steps}
 use Rattle.dcm_tree_laws.proofs.Written.{IsIdle, more, is_ready}
 
@@ -45,20 +46,16 @@ part_then h m done before mid after first (part_alone none second) = part_alone 
 part_then h m done before mid after first (at_instance relative is second) =
     at_instance relative is (then_touches h m.part m.output relative.items (is_written done.fate ≡ true) before.now mid.now after.now (first relative.items (is_written done.fate ≡ true)) second)
 
--- there is no part to write to
-pub no_err : (r : Result Done RunStop) (p : RunStop) (done : Done) → r ≡ Err p → r ≡ Ok done → ⊥
-no_err r p done a b = absurd (cc)
-
 unnamed_none : (became : Result Fate RunStop) (r : Result Done RunStop) (done : Done) → r ≡ unnamed became → r ≡ Ok done → done.instance ≡ None
 unnamed_none (Ok fate) r done is ok = ap (λ (d : Done). d.instance) (same_ok r (without_name fate) done is ok)
-unnamed_none (Err p) r done is ok = absurd (no_err r p done is ok)
+unnamed_none (Err p) r done is ok = absurd (no_done r p done is ok)
 
 no_name : {E : Type 0} (e : Writer E) (name : List ℕ) (cause : NoPart) (from : E) (r : Result Done RunStop) (to : E) (done : Done) → EndsWithoutPart e name cause from r to → r ≡ Ok done → done.instance ≡ None
 no_name e name cause from r to done (instance.ended became tells is) ok = unnamed_none became r done is ok
 
 module _ {I O F E : Type 0} (h : Host I O) (r : Reader I) (w : Writer O) (e : Writer E) (m : Manner) where
   gives_free : (path relative bytes : List ℕ) → path ≡ below m.output relative → (start before : FileSystem) (naming : Naming) (after : FileSystem) → IsReady h (IsOutput h r w) m.part m.output bytes start before
-      → GivesFreeName (may_do {I = I} h) (folders_do {F = F} h) m.part path (length m.output + 1) before naming after → Touches h m.part m.output relative (is_named naming ≡ true) before.now after.now
+      → GivesFreeName (may_do {I = I} h) (folders_do {F = F} h) m.modes m.part path (length m.output + 1) before naming after → Touches h m.part m.output relative (is_named naming ≡ true) before.now after.now
   gives_free path relative bytes is start before naming after i (instance.not_free place f nf n) =
       still h m.part m.output relative (is_named naming ≡ true) before after (finds (folders_do {F = F} h) (are_quiet h) path (length m.output + 1) before place after f)
   gives_free path relative bytes is start before naming after i (instance.free place looked f nf g) =
@@ -100,7 +97,7 @@ module _ {I O F E : Type 0} (h : Host I O) (r : Reader I) (w : Writer O) (e : Wr
   fills job name mode input output new from start before done to after i (instance.has_done ending was_filled told f was reports names) =
       part_then h m done before was_filled after (λ relative IsNamed. filled h r w m relative job input output before ending was_filled IsNamed f)
       (names_part name (h.took f.written) (ending_fate ending) told start was_filled done to after was
-      (is_ready (h.took f.written) (more i (is_filled_as h (IsOutput h r w) r w m.part m.output (h.masked mode) job input output before ending was_filled f (is_output h r w mode job input f.left output f.written ending new f.finished was)))) names)
+      (is_ready (h.took f.written) (more i (is_filled_as h (IsOutput h r w) r w m.part m.output (h.masked mode) job input output before ending was_filled f was (is_output h r w mode job input f.left output f.written ending new (finished_of f was) was)))) names)
 
   by_instance : (job : Job) (n : Named) (mode : ℕ) (from : E) (before : FileSystem) (result : Result Done RunStop) (to : E) (after : FileSystem) (done : Done) → IsIdle h (IsOutput h r w) m.part m.output idle before before
       → DoesByInstance (over {F = F} h r w e) job m n mode from before result to after → result ≡ Ok done → TouchesAs h m done before after

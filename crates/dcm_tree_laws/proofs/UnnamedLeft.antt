@@ -1,6 +1,7 @@
 -- A file that ends without a name does so again, and all is left as it was.
 use Rattle.std.proofs.Common.{◌≡◌, ◌∙◌, refl, sym, ap, subst, ℕ, List, [], Bool, true, false, None, Result, Ok, Err}
 use Rattle.std.specs.Str.{IsUtf8}
+use Rattle.dcm_lemmas.proofs.Truth.{true_false}
 use Rattle.dcm_devices.specs.Writing.{Writer}
 use Rattle.dcm_files.specs.declared.folders.Links.TheVariants.{Followed}
 use Rattle.dcm_instance.specs.declared.names.NoInstance.{NoInstance}
@@ -37,9 +38,6 @@ use Rattle.dcm_tree_laws.proofs.Left.{same_mode}
 use Rattle.dcm_tree_laws.proofs.Looking.{same_ok}
 use Rattle.dcm_tree_laws.proofs.Working.{working_also, whole_gives, IsOpened, is_opened, not_unopened, JobIs, job_found, HasDone, job_done, PartMade, part_made, instance_found}
 use Rattle.dcm_tree_laws.proofs.Works as works
-
-true_false : {A : Type 0} (b : Bool) → b ≡ true → b ≡ false → A
-true_false b e f = absurd (cc)
 
 -- ---- its fate is one
 
@@ -113,7 +111,7 @@ module _ {I O E : Type 0} (F : Type 0) (h : Host I O) (r : Reader I) (w : Writer
       → h.holds input ≡ held → IsJobOf m.task held job → EndsUnnamed m.task held fate → after.unremoved ≡ false → FillsByInstance (working {F = F} h r w e) job m name input output from made done to after → IsUnnamed fate before done after
   filled job name mode input output held fate from before made done to after none makes new sound holds of_job ends gone (instance.not_done ending was_filled f not told removes is) =
       let d : HasDone job held (h.took f.written) ending = subst (λ (b : List ℕ). HasDone job b (h.took f.written) ending) holds (job_done h r w all job input output made ending was_filled sound new f) in
-      let closes : ClosesOutput made.written (h.took f.written) made was_filled = subst (λ (s : FileSystem). ClosesOutput made.written (h.took f.written) made s) (sym f.releases) f.closes.0 in
+      let closes : ClosesOutput made.written (h.took f.written) (h.took f.written) made was_filled = subst (λ (s : FileSystem). ClosesOutput made.written (h.took f.written) (h.took f.written) made s) (sym f.releases) f.closes.0 in
       let its : ending_fate ending ≡ verdict_fate d.verdict = ap ending_fate d.is in
       record {
         row = is ∙ ap without_name (its ∙ not_done_fate m.task held (h.took f.written) d.verdict fate ends (record { job = job; is_job = of_job; answered = d.answered }) (sym (ap is_written its) ∙ not));
@@ -121,7 +119,7 @@ module _ {I O E : Type 0} (F : Type 0) (h : Host I O) (r : Reader I) (w : Writer
       }
   filled job name mode input output held fate from before made done to after none makes new sound holds of_job ends gone (instance.has_done ending was_filled told f is reports names) =
       let d : HasDone job held (h.took f.written) ending = subst (λ (b : List ℕ). HasDone job b (h.took f.written) ending) holds (job_done h r w all job input output made ending was_filled sound new f) in
-      let closes : ClosesOutput made.written (h.took f.written) made was_filled = subst (λ (s : FileSystem). ClosesOutput made.written (h.took f.written) made s) (sym f.releases) f.closes.0 in
+      let closes : ClosesOutput made.written (h.took f.written) (h.took f.written) made was_filled = subst (λ (s : FileSystem). ClosesOutput made.written (h.took f.written) (h.took f.written) made s) (sym f.releases) f.closes.0 in
       named name held (h.took f.written) d.verdict fate (ending_fate ending) told before was_filled done to after none (whole_at h m.part mode (h.took f.written) before made was_filled makes closes) ends
       (record { job = job; is_job = of_job; answered = d.answered }) (sym (ap (λ (x : Ending). is_written (ending_fate x)) d.is) ∙ is) gone names
 

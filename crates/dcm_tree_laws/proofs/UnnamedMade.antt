@@ -1,6 +1,7 @@
 -- A file whose row says that no output was written ends so by its bytes.
 use Rattle.std.proofs.Common.{◌≡◌, ◌∙◌, refl, sym, ap, subst, ℕ, List, Bool, true, false, Result, Ok, Err}
 use Rattle.std.specs.Str.{IsUtf8}
+use Rattle.dcm_lemmas.proofs.Truth.{true_false}
 use Rattle.dcm_devices.specs.Writing.{Writer}
 use Rattle.dcm_files.specs.declared.folders.Links.TheVariants.{Followed}
 use Rattle.dcm_instance.specs.declared.names.Instance.{Instance}
@@ -47,9 +48,6 @@ is_ended fates.Pixels = true
 is_ended fates.Unnamed = true
 is_ended _ = false
 
-true_false : {A : Type 0} (b : Bool) → b ≡ true → b ≡ false → A
-true_false b e f = absurd (cc)
-
 -- a row of a file that ends so
 pub record Ended (task : Task) (held : List ℕ) (done : Done) : Type 0 where
   pub ends : EndsUnnamed task held done.fate
@@ -68,7 +66,7 @@ unsettled done fate is not settled = true_false (is_ended done.fate) settled (ap
 place_unsettled : (place : Place) (same : Bool) → is_ended (place_fate place same) ≡ false
 place_unsettled places.There true = refl
 place_unsettled places.There false = refl
-place_unsettled places.Taken same = refl
+place_unsettled places.Barred same = refl
 place_unsettled places.Free same = refl
 
 naming_unsettled : {A : Type 0} (naming : Naming) (fate : Fate) (same : Bool) → is_written fate ≡ true → is_written (naming_fate naming fate same) ≡ false → is_ended (naming_fate naming fate same) ≡ true → A
@@ -118,7 +116,7 @@ module _ {I O E : Type 0} (F : Type 0) (h : Host I O) (r : Reader I) (w : Writer
   ended_filled job name mode input output held from opened made done to after part sound holds of_job (instance.has_done ending was_filled told f is reports names) not settled =
       let d : HasDone job held (h.took f.written) ending = subst (λ (b : List ℕ). HasDone job b (h.took f.written) ending) holds (job_done h r w all job input output made ending was_filled sound part.new f) in
       let its : ending_fate ending ≡ verdict_fate d.verdict = ap ending_fate d.is in
-      let closes : ClosesOutput made.written (h.took f.written) made was_filled = subst (λ (s : FileSystem). ClosesOutput made.written (h.took f.written) made s) (sym f.releases) f.closes.0 in
+      let closes : ClosesOutput made.written (h.took f.written) (h.took f.written) made was_filled = subst (λ (s : FileSystem). ClosesOutput made.written (h.took f.written) (h.took f.written) made s) (sym f.releases) f.closes.0 in
       let whole : WholeAt h m.part (h.took f.written) opened.now was_filled.now = whole_at h m.part mode (h.took f.written) opened made was_filled part.makes closes in
       ended_named name held (h.took f.written) d.verdict (ending_fate ending) told was_filled done to after (record { job = job; is_job = of_job; answered = d.answered }) (sym (ap is_written its) ∙ is) is part.text
       (followed h was_filled.now m.part whole.file leads whole.at whole.kind) whole.bytes names not settled

@@ -2,6 +2,8 @@
 use Rattle.std.proofs.Common.{◌≡◌, ◌∙◌, refl, sym, ap, subst, inl, inr, ◌⊎◌, ℕ, zero, suc, ◌+◌, ◌<◌, ◌≤◌, List, [], ◌∷◌, ◌++◌, length, Bool, true, false, Option, Some, None, Result, Ok, Err, arith, append_assoc, length-append}
 use Rattle.std.specs.Prelude.{◌≢◌, codes}
 use Rattle.std.specs.declared.io.Error.{Error}
+use Rattle.dcm_lemmas.proofs.Options.{some_same}
+use Rattle.dcm_lemmas.proofs.Truth.{true_false}
 use Rattle.dcm_files.specs.Folders.{FoldersDo}
 use Rattle.dcm_files.specs.declared.folders.Found.{Found}
 use Rattle.dcm_files.specs.declared.folders.FoundKind.{FoundKind}
@@ -136,7 +138,7 @@ pub record Reaches {I O : Type 0} (h : Host I O) (start : Tree) (w : Walk) (leve
   pub deep : depth relative ≤ levels
   pub leads : leads_below relative ≡ true
 
-inner_way : (first rest front behind : List ℕ) → rest ≡ below front behind → below first rest ≡ below (below first front) behind
+pub inner_way : (first rest front behind : List ℕ) → rest ≡ below front behind → below first rest ≡ below (below first front) behind
 inner_way first rest front behind is = ap (below first) is ∙ sym (below_twice first front behind)
 
 abbrev as_file : {I O : Type 0} (h : Host I O) (start : Tree) (path other : List ℕ) → path ≡ other → FileAt h Kept start path → FileAt h Kept start other
@@ -160,15 +162,9 @@ reaches_rest h start w levels folder first rest mode deeper r = record {
 not_none : {A : Type 0} (o : Option A) (a : A) → o ≡ Some a → o ≢ None
 not_none o a e f = absurd (cc)
 
-some_same : {A : Type 0} (a b : A) → Some a ≡ Some b → a ≡ b
-some_same a b e = cc
-
 later_not : {A : Type 0} (o other : Option A) → ((a : A) → o ≡ Some a → other ≡ Some a) → o ≢ None → other ≢ None
 later_not None other so some = absurd (some refl)
 later_not (Some a) other so some = not_none other a (so a refl)
-
-true_false : (b : Bool) → b ≡ true → b ≡ false → ⊥
-true_false b e f = absurd (cc)
 
 judged_fit : (n : Named) (what : What) → IsFit n → IsJudged n what → ⊥
 judged_fit n what fit (walk.unfit u is) = true_false (is_unfit n) u fit.fits

@@ -1,6 +1,7 @@
--- No output is half under its name, after each step.
+-- After each step every output that has its name is complete.
 use Rattle.std.proofs.Common.{◌≡◌, ◌∙◌, refl, sym, subst, inl, inr, ◌⊎◌, ℕ, List, false, Option, Some, None}
 use Rattle.std.specs.Prelude.{◌≢◌}
+use Rattle.dcm_lemmas.proofs.Options.{none_or_some, one_value, one_value as same_number}
 use Rattle.dcm_files.specs.declared.folders.Found.{Found}
 use Rattle.dcm_files.specs.declared.folders.FoundKind.TheVariants.{File, Folder}
 use Rattle.dcm_tree_laws.specs.FileSystem.{FileSystem, Tree, Number, Host, number_of, place_of, Puts, Fills, SameBytes, SameNames, Notes, IsFresh, at_path}
@@ -17,9 +18,6 @@ kept_at IsWhole start t u p same bytes (nothing e) = nothing (same ∙ e)
 kept_at IsWhole start t u p same bytes (was_there f e at_start b) = was_there f (same ∙ e) at_start (bytes f e ∙ b)
 kept_at IsWhole start t u p same bytes (is_folder f e kind) = is_folder f (same ∙ e) kind
 kept_at IsWhole start t u p same bytes (an_output f e kind done) = an_output f (same ∙ e) kind (subst (IsWhole f.mode) (sym (bytes f e)) done)
-
-same_found : (o : Option Found) (f g : Found) → o ≡ Some f → o ≡ Some g → f ≡ g
-same_found o f g a b = cc
 
 -- ---- the part
 
@@ -95,7 +93,7 @@ gives h IsWhole part start at before after place what rest none puts same notes 
 linked_is : {I O : Type 0} (h : Host I O) (IsWhole : ℕ → List ℕ → Type 0) (part path : List ℕ) (start : Tree) (bytes : List ℕ) (before after : FileSystem) → IsFilled h IsWhole part before bytes → (f : Found) → at_path h before.now part ≡ Some f
     → at_path h after.now path ≡ Some f → SameBytes before.now after.now → IsWholeAt IsWhole start after.now (place_of h path)
 linked_is h IsWhole part path start bytes before after is_filled f was there same =
-    let e : is_filled.has.file ≡ f = same_found (at_path h before.now part) is_filled.has.file f is_filled.has.is was in
+    let e : is_filled.has.file ≡ f = one_value (at_path h before.now part) is_filled.has.file f is_filled.has.is was in
     an_output f there (subst (λ (g : Found). g.kind ≡ File) e is_filled.has.kind)
     (subst (IsWhole f.mode) (sym (same (number_of f))) (subst (λ (g : Found). IsWhole g.mode (before.now.bytes (number_of g))) e is_filled.done))
 
@@ -165,13 +163,10 @@ takes_pieces h IsWhole part start mode n all before after (no_piece e) holds = s
 takes_pieces h IsWhole part start mode n all before after (and_piece mid front rest pieces is t) holds =
     takes h IsWhole part start mode n front (Some n) mid after t.fills t.names t.notes (takes_pieces h IsWhole part start mode n all before mid pieces holds)
 
-takes_all : {I O : Type 0} (h : Host I O) (IsWhole : ℕ → List ℕ → Type 0) (part : List ℕ) (start : Tree) (mode : ℕ) (n : Number) (all : List ℕ) (before after : FileSystem) → Closes n all before after → HoldsOpen h IsWhole part start mode n before
-    → HoldsOpen h IsWhole part start mode n after × (after.now.bytes n ≡ all)
-takes_all h IsWhole part start mode n all before after c holds =
-    (takes h IsWhole part start mode n all None c.last after c.fills c.names c.notes (takes_pieces h IsWhole part start mode n all before c.last c.pieces holds), c.fills.filled)
-
-same_number : (now : Option Number) (a b : Number) → now ≡ Some a → now ≡ Some b → a ≡ b
-same_number now a b e f = cc
+takes_all : {I O : Type 0} (h : Host I O) (IsWhole : ℕ → List ℕ → Type 0) (part : List ℕ) (start : Tree) (mode : ℕ) (n : Number) (all kept : List ℕ) (before after : FileSystem) → Closes n all kept before after → HoldsOpen h IsWhole part start mode n before
+    → HoldsOpen h IsWhole part start mode n after × (after.now.bytes n ≡ kept)
+takes_all h IsWhole part start mode n all kept before after c holds =
+    (takes h IsWhole part start mode n kept None c.last after c.fills c.names c.notes (takes_pieces h IsWhole part start mode n all before c.last c.pieces holds), c.fills.filled)
 
 opened : {I O : Type 0} (h : Host I O) (IsWhole : ℕ → List ℕ → Type 0) (part : List ℕ) (start : Tree) (mode : ℕ) (s : FileSystem) (n : Number) → s.written ≡ Some n → Holds h IsWhole part start (writing mode) s → HoldsOpen h IsWhole part start mode n s
 opened h IsWhole part start mode s n is holds =
@@ -187,13 +182,10 @@ opened h IsWhole part start mode s n is holds =
       alone = subst (IsAlone h part s.now) same holds.part_at.alone;
     }
 
-none_is : (now : Option Number) (n : Number) → now ≡ None → now ≡ Some n → ⊥
-none_is now n e f = absurd (cc)
-
-pub closes : {I O : Type 0} (h : Host I O) (IsWhole : ℕ → List ℕ → Type 0) (part : List ℕ) (start : Tree) (mode : ℕ) (now : Option Number) (all : List ℕ) (before after : FileSystem) → before.written ≡ now → ClosesOutput now all before after
-    → Holds h IsWhole part start (writing mode) before → (n : Number) × (HoldsOpen h IsWhole part start mode n after × (after.now.bytes n ≡ all))
-closes h IsWhole part start mode (Some n) all before after is c holds = (n, takes_all h IsWhole part start mode n all before after c (opened h IsWhole part start mode before n is holds))
-closes h IsWhole part start mode None all before after is c holds = absurd (none_is before.written (number_of holds.part_at.has.file) is holds.part_at.written)
+pub closes : {I O : Type 0} (h : Host I O) (IsWhole : ℕ → List ℕ → Type 0) (part : List ℕ) (start : Tree) (mode : ℕ) (now : Option Number) (all kept : List ℕ) (before after : FileSystem) → before.written ≡ now → ClosesOutput now all kept before after
+    → Holds h IsWhole part start (writing mode) before → (n : Number) × (HoldsOpen h IsWhole part start mode n after × (after.now.bytes n ≡ kept))
+closes h IsWhole part start mode (Some n) all kept before after is c holds = (n, takes_all h IsWhole part start mode n all kept before after c (opened h IsWhole part start mode before n is holds))
+closes h IsWhole part start mode None all kept before after is c holds = absurd (none_or_some before.written (number_of holds.part_at.has.file) is holds.part_at.written)
 
 to_idle : {I O : Type 0} (h : Host I O) (IsWhole : ℕ → List ℕ → Type 0) (part : List ℕ) (start : Tree) (mode : ℕ) (n : Number) (s : FileSystem) → HoldsOpen h IsWhole part start mode n s → Holds h IsWhole part start idle s
 to_idle h IsWhole part start mode n s holds = record { none_half = holds.none_half; earlier = holds.earlier; part_at = tt }
@@ -233,7 +225,7 @@ moves h IsWhole part path start bytes before after (a_file m) holds = record {
 }
 moves h IsWhole part path start bytes before after (same_file one other way from to same e) holds = rest_state h IsWhole part start (whole bytes) before after e holds
 moves h IsWhole part path start bytes before after (a_folder one is kind stays) holds =
-    absurd (is_file one (subst (λ (g : Found). g.kind ≡ File) (same_found (at_path h before.now part) holds.part_at.has.file one holds.part_at.has.is is) holds.part_at.has.kind) kind)
+    absurd (is_file one (subst (λ (g : Found). g.kind ≡ File) (one_value (at_path h before.now part) holds.part_at.has.file one holds.part_at.has.is is) holds.part_at.has.kind) kind)
 
 removes : {I O : Type 0} (h : Host I O) (IsWhole : ℕ → List ℕ → Type 0) (part : List ℕ) (start : Tree) (at : Phase) (before after : FileSystem) → Removes h part before after → Holds h IsWhole part start at before
     → Holds h IsWhole part start idle after
@@ -250,18 +242,18 @@ as_phase h IsWhole part start at then s is holds = subst (λ (k : Phase). Holds 
 
 pub each_holds : {I O : Type 0} (h : Host I O) (IsWhole : ℕ → List ℕ → Type 0) (part : List ℕ) (Of : List ℕ → Type 0) (start : Tree) (at : Phase) (before : FileSystem) (then : Phase) (after : FileSystem)
     → StepIn h IsWhole part Of at before then after → Holds h IsWhole part start at before → Holds h IsWhole part start then after
-each_holds h IsWhole part Of start at before then after (folder path rest to m same) holds =
+each_holds h IsWhole part Of start at before then after (folder path mode rest to m same) holds =
     as_phase h IsWhole part start at then after same
     (gives h IsWhole part start at before after (place_of h path) (Some m.made) rest m.nothing m.puts m.bytes m.notes (is_folder m.made m.puts.there m.kind) holds)
 each_holds h IsWhole part Of start at before then after (part_made mode rest m is) holds =
     as_phase h IsWhole part start (writing (h.masked mode)) then after is (makes h IsWhole part start at before after mode m holds)
 each_holds h IsWhole part Of start at before then after (filled mode bytes was c done is) holds =
     let all : (n : Number) × (HoldsOpen h IsWhole part start mode n after × (after.now.bytes n ≡ bytes)) =
-    closes h IsWhole part start mode before.written bytes before after refl c (as_phase h IsWhole part start at (writing mode) before (sym was) holds) in
+    closes h IsWhole part start mode before.written bytes bytes before after refl c (as_phase h IsWhole part start at (writing mode) before (sym was) holds) in
     as_phase h IsWhole part start (whole bytes) then after is (to_whole h IsWhole part start mode all.0 bytes after done all.1.1 all.1.0)
-each_holds h IsWhole part Of start at before then after (not_filled mode bytes was c is) holds =
-    let all : (n : Number) × (HoldsOpen h IsWhole part start mode n after × (after.now.bytes n ≡ bytes)) =
-    closes h IsWhole part start mode before.written bytes before after refl c (as_phase h IsWhole part start at (writing mode) before (sym was) holds) in
+each_holds h IsWhole part Of start at before then after (not_filled mode bytes kept was c is) holds =
+    let all : (n : Number) × (HoldsOpen h IsWhole part start mode n after × (after.now.bytes n ≡ kept)) =
+    closes h IsWhole part start mode before.written bytes kept before after refl c (as_phase h IsWhole part start at (writing mode) before (sym was) holds) in
     as_phase h IsWhole part start idle then after is (to_idle h IsWhole part start mode all.0 after all.1.0)
 each_holds h IsWhole part Of start at before then after (named bytes path was to l same) holds =
     let at_whole : Holds h IsWhole part start (whole bytes) before = as_phase h IsWhole part start at (whole bytes) before (sym was) holds in
@@ -283,4 +275,4 @@ pub no_folder : {I O : Type 0} (h : Host I O) (IsWhole : ℕ → List ℕ → Ty
 no_folder h IsWhole part start idle s holds rest other f is = absurd (other refl)
 no_folder h IsWhole part start (writing mode) s holds rest other f is = absurd (cc)
 no_folder h IsWhole part start (whole bytes) s holds rest other f is =
-    is_file f (subst (λ (g : Found). g.kind ≡ File) (same_found (at_path h s.now part) holds.part_at.has.file f holds.part_at.has.is is) holds.part_at.has.kind)
+    is_file f (subst (λ (g : Found). g.kind ≡ File) (one_value (at_path h s.now part) holds.part_at.has.file f holds.part_at.has.is is) holds.part_at.has.kind)

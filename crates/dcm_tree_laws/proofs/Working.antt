@@ -1,9 +1,13 @@
 -- What the calls of a system answer where none fails that need not.
 use Rattle.std.proofs.Common.{◌≡◌, ◌∙◌, refl, sym, ap, subst, inl, inr, ℕ, ℤ, ◌≤◌, ◌<◌, List, [], ◌∷◌, ◌++◌, ◌+◌, length, Bool, true, false, Option, Some, None, Result, Ok, Err, arith, length-append}
+use Rattle.std.specs.declared.io.Error.{Error}
 use Rattle.std.specs.Prelude.{◌≢◌}
 use Rattle.std.specs.Io.KnownBytes.{append_known}
 use Rattle.std.specs.Str.{IsUtf8}
 use Rattle.std.proofs.lemmas.List.{append-nil}
+use Rattle.dcm_cli.proofs.Runs.WholeMemory.{nothing_follows}
+use Rattle.dcm_lemmas.proofs.Options.{some_same}
+use Rattle.dcm_lemmas.proofs.Truth.{true_false}
 use Rattle.dcm_base.specs.Reading.Reads.{INPUT_LIMIT}
 use Rattle.dcm_deid.specs.declared.fate.Options.{Options}
 use Rattle.dcm_devices.specs.Writing.{Writer}
@@ -34,6 +38,7 @@ use Rattle.dcm_trees.specs.declared.task.NoDays.TheVariants as no_days
 use Rattle.dcm_trees.specs.Fate.{is_written}
 use Rattle.dcm_trees.specs.Instance as instance
 use Rattle.dcm_trees.specs.Instance.{FindsInstance, ComparesFiles}
+use Rattle.dcm_cli.specs.Run.{Remarked, RemarkedAs}
 use Rattle.dcm_trees.specs.Lines.{ending_fate}
 use Rattle.dcm_trees.specs.Opening as opening
 use Rattle.dcm_trees.specs.Opening.{OpensFile}
@@ -45,13 +50,11 @@ use Rattle.dcm_tree_laws.specs.Again.{sure}
 use Rattle.dcm_tree_laws.specs.Determined.{FileAt, working_may, working_folders, as_whole, HasNoDays}
 use Rattle.dcm_tree_laws.specs.FileSystem.{FileSystem, Host, number_of, at_path, may_do, folders_do, MakesFile}
 use Rattle.dcm_tree_laws.specs.Single.{IsJobOf, of_all, of_days, TellsAll}
-use Rattle.dcm_tree_laws.proofs.Answered.{not_so, some_same, from_nothing}
+use Rattle.dcm_tree_laws.proofs.Closing.{nothing_lost}
+use Rattle.dcm_tree_laws.proofs.Answered.{not_so, from_nothing, no_output, no_unread, same_verdict}
 use Rattle.dcm_tree_laws.proofs.Held.{GivesAll, Left, reads_left}
 use Rattle.dcm_tree_laws.proofs.Sure.{Implies}
 use Rattle.dcm_tree_laws.proofs.Works.{Allows as MayAllow}
-
-true_false : {A : Type 0} (b : Bool) → b ≡ true → b ≡ false → A
-true_false b e f = absurd (cc)
 
 -- ---- it may do no more than any system
 
@@ -61,14 +64,15 @@ working_also h r w = record {
   releases = λ before input after call. call;
   moves = λ before from to result after call. call;
   removes = λ before path result after call. call;
-  closes = λ before output after call. call.0;
+  closes = λ before output result after call. subst (λ (x : Result (Unit {0}) Error). (may_do h).closes before output x after) (sym call.2) call.0;
 }
 
 -- what is looked at is seen
 pub working_sure : {I O F : Type 0} (h : Host I O) → Implies (working_folders h (sure (folders_do {F = F} h))) (sure (folders_do {F = F} h))
 working_sure h = record {
   sees = λ before path links r after call. call;
-  folder = λ before path r after call. call.0;
+  modes = λ before folder name r after call. call;
+  folder = λ before path mode r after call. call.0;
   file = λ before path mode r after call. call.0;
   link = λ before from to r after call. call.0;
 }
@@ -76,7 +80,8 @@ working_sure h = record {
 pub working_can : {I O F : Type 0} (h : Host I O) → Implies (working_folders h (sure (folders_do {F = F} h))) (folders_do {F = F} h)
 working_can h = record {
   sees = λ before path links r after call. call.0;
-  folder = λ before path r after call. call.0;
+  modes = λ before folder name r after call. call.0;
+  folder = λ before path mode r after call. call.0;
   file = λ before path mode r after call. call.0;
   link = λ before from to r after call. call.0;
 }
@@ -140,9 +145,6 @@ opens_there h r w path before input after text f (opening.opened o t call kind i
 not_none : {A B : Type 0} (a : A) → None ≡ Some a → B
 not_none a e = absurd (cc)
 
-same_input : {I : Type 0} (a b : I) → Some a ≡ Some b → a ≡ b
-same_input a b e = cc
-
 -- what is opened is its input
 pub record IsOpened {I O : Type 0} (h : Host I O) (r : Reader I) (held : List ℕ) (input : I) (before after : FileSystem) : Type 0 where
   pub sound : r.has_failed input ≡ false
@@ -153,7 +155,7 @@ pub is_opened : {I O : Type 0} (h : Host I O) (r : Reader I) (w : Writer O) (pat
     → IsOpened h r (before.now.bytes (number_of f.file)) input before after
 is_opened h r w path before input after text f opens =
     let x : HasOpened h r (before.now.bytes (number_of f.file)) (Some input) before after = opens_there h r w path before (Some input) after text f opens in
-    let same : input ≡ x.device = same_input input x.device x.is in
+    let same : input ≡ x.device = some_same input x.device x.is in
     record { sound = ap r.has_failed same ∙ x.sound; holds = ap h.holds same ∙ x.holds; same = x.same }
 
 pub not_unopened : {A I O : Type 0} (h : Host I O) (r : Reader I) (w : Writer O) (path : List ℕ) (before after : FileSystem) → IsUtf8 path → FileAt h Followed before.now path → OpensFile (working_may h r w (may_do h)) path before None after → A
@@ -223,15 +225,6 @@ record Wrote (job : Job) (input : List ℕ) (before after : Option (List ℕ)) (
   answered : Answered job input out verdict
   grown : after ≡ append_known before out
 
-same_verdict : (a b : Verdict) → Worked a ≡ Worked b → a ≡ b
-same_verdict a b e = cc
-
-no_unread : (worked : Ending) (verdict : Verdict) (count : ℕ) → worked ≡ Worked verdict → worked ≡ Unread count → ⊥
-no_unread worked verdict count a b = absurd (cc)
-
-no_output : (worked : Ending) (verdict : Verdict) → worked ≡ Worked verdict → worked ≡ Output → ⊥
-no_output worked verdict a b = absurd (cc)
-
 wrote : (job : Job) (input : List ℕ) (left before after : Option (List ℕ)) (worked : Ending) (verdict : Verdict) → worked ≡ Worked verdict → run.Worked job input left before after worked → Wrote job input before after verdict
 wrote job input left before after worked verdict is (run.answered out other h e grown) = record {
   out = out;
@@ -265,10 +258,22 @@ pub job_done : {I O : Type 0} (h : Host I O) (r : Reader I) (w : Writer O) → G
     → (f : Fills (working_may h r w (may_do h)) (as_whole h r) w job input output before ending after) → HasDone job (h.holds input) (h.took f.written) ending
 job_done h r w all job input output before ending after sound new f =
     let works = f.finished.works in
-    let ended : (verdict : Verdict) × (f.finished.worked ≡ Worked verdict) × (ending ≡ Worked verdict) =
-    worked_by f.finished.worked ending (r.has_failed input) (r.has_failed f.left) (w.has_failed output) (w.has_failed f.finished.written) (w.has_failed f.written) (w.room f.written) works.unread works.failed f.finished.flushed
+    let ended : (verdict : Verdict) × (f.finished.worked ≡ Worked verdict) × (f.ended ≡ Worked verdict) =
+    worked_by f.finished.worked f.ended (r.has_failed input) (r.has_failed f.left) (w.has_failed output) (w.has_failed f.finished.written) (w.has_failed f.written) (w.room f.written) works.unread works.failed f.finished.flushed
     (reads_sound h r (calls.IsUndecided job) input f.left works.given works.how sound works.reads) f.closes.1 in
-    took_done h (as_whole h r) w all job input f.left output f.written ending new f.finished ended.0 ended.1 ended.2
+    subst (λ (x : Ending). HasDone job (h.holds input) (h.took f.written) x) (sym (f.ending_is ∙ nothing_lost f.ended f.closing f.closes.2))
+    (took_done h (as_whole h r) w all job input f.left output f.written f.ended new f.finished ended.0 ended.1 ended.2)
+
+-- what is remarked is that of what its input holds
+pub job_remarked : {I O : Type 0} (h : Host I O) (r : Reader I) (w : Writer O) → GivesAll h (as_whole h r) w → (job : Job) (input : I) (output : O) (before : FileSystem) (ending : Ending) (after : FileSystem) → r.has_failed input ≡ false
+    → (f : Fills (working_may h r w (may_do h)) (as_whole h r) w job input output before ending after) → Remarked job (h.holds input) f.remarks
+job_remarked h r w all job input output before ending after sound f =
+    let works = f.finished.works in
+    let ended : (verdict : Verdict) × (f.finished.worked ≡ Worked verdict) × (f.ended ≡ Worked verdict) =
+    worked_by f.finished.worked f.ended (r.has_failed input) (r.has_failed f.left) (w.has_failed output) (w.has_failed f.finished.written) (w.has_failed f.written) (w.room f.written) works.unread works.failed f.finished.flushed
+    (reads_sound h r (calls.IsUndecided job) input f.left works.given works.how sound works.reads) f.closes.1 in
+    let held : Left h input works.given works.how = reads_left h (as_whole h r) w all (calls.IsUndecided job) input f.left works.given works.how works.reads in
+    subst (λ (b : List ℕ). Remarked job b f.remarks) (sym held.whole) (subst (λ (x : Ending). RemarkedAs job works.given works.how x f.remarks) ended.1 f.remarked held.rest held.allowed)
 
 -- and where all was done
 written_by : (worked ending : Ending) (before after : Bool) (room : Option ℕ) → FlushedAs worked ending before after room → is_written (ending_fate ending) ≡ true → (verdict : Verdict) × (worked ≡ Worked verdict) × (ending ≡ Worked verdict)
@@ -349,10 +354,6 @@ compared_same h r w all first second s same after held text too f g first_is sec
     (reads_left h (as_whole h r) w all (bytes.InFront z.second) one c.first_left z.first z.first_how z.reads_first) (reads_left h (as_whole h r) w all (bytes.InFront z.first) other c.second_left z.second z.second_how z.reads_second)
     (x.holds ∙ first_is) (y.holds ∙ second_is) fits)
 
--- two files that are the same have the same bytes
-no_rest : (how : How) (rest : List ℕ) → how ≡ to_end → Allows how rest → rest ≡ []
-no_rest how rest is allowed = subst (λ (x : How). Allows x rest) is allowed
-
 ends_with : (whole front rest : List ℕ) → whole ≡ front ++ rest → rest ≡ [] → whole ≡ front
 ends_with whole front rest is none = is ∙ ap (λ (x : List ℕ). front ++ x) none ∙ append-nil front
 
@@ -369,5 +370,5 @@ compared_bytes h r w all first second s after text too f g (instance.both one ot
     let z = c.compared in
     let a : Left h one z.first z.first_how = reads_left h (as_whole h r) w all (bytes.InFront z.second) one c.first_left z.first z.first_how z.reads_first in
     let b : Left h other z.second z.second_how = reads_left h (as_whole h r) w all (bytes.InFront z.first) other c.second_left z.second z.second_how z.reads_second in
-    sym x.holds ∙ ends_with (h.holds one) z.first a.rest a.whole (no_rest z.first_how a.rest z.answer_is.first_end a.allowed) ∙ z.answer_is.same
-    ∙ sym (ends_with (h.holds other) z.second b.rest b.whole (no_rest z.second_how b.rest z.answer_is.second_end b.allowed)) ∙ y.holds
+    sym x.holds ∙ ends_with (h.holds one) z.first a.rest a.whole (nothing_follows z.first_how a.rest z.answer_is.first_end a.allowed) ∙ z.answer_is.same
+    ∙ sym (ends_with (h.holds other) z.second b.rest b.whole (nothing_follows z.second_how b.rest z.answer_is.second_end b.allowed)) ∙ y.holds

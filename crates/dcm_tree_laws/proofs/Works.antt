@@ -24,6 +24,7 @@ use Rattle.dcm_trees.specs.File.{DoesReady, DoesFree, DoesPlaced, DoesNamed, Doe
 use Rattle.dcm_trees.specs.Instance as instance
 use Rattle.dcm_trees.specs.Instance.{FindsInstance, Compares, ComparesFiles, FindsCopy, GivesFreeName, PlacesPart, NamesBy, NamesPart, FillsByInstance, DoesByInstance, DoesUnnamed}
 use Rattle.dcm_trees.specs.Manner.{Manner, manner_of}
+use Rattle.dcm_trees.specs.Modes.{Modes}
 use Rattle.dcm_trees.specs.Opening as opening
 use Rattle.dcm_trees.specs.Opening.{OpensFile}
 use Rattle.dcm_trees.specs.Part as parts
@@ -41,7 +42,7 @@ pub record Allows {S I O : Type 0} (may more : MayDo S I O) : Type 0 where
   pub releases : (before : S) (input : I) (after : S) → may.releases before input after → more.releases before input after
   pub moves : (before : S) (from to : List ℕ) (r : Result (Unit {0}) Error) (after : S) → may.moves before from to r after → more.moves before from to r after
   pub removes : (before : S) (path : List ℕ) (r : Result (Unit {0}) Error) (after : S) → may.removes before path r after → more.removes before path r after
-  pub closes : (before : S) (output : O) (after : S) → may.closes before output after → more.closes before output after
+  pub closes : (before : S) (output : O) (r : Result (Unit {0}) Error) (after : S) → may.closes before output r after → more.closes before output r after
 
 -- its own, among them
 pub allows_same : {S I O : Type 0} (may : MayDo S I O) → Allows may may
@@ -50,7 +51,7 @@ allows_same may = record {
   releases = λ before input after call. call;
   moves = λ before from to r after call. call;
   removes = λ before path r after call. call;
-  closes = λ before output after call. call;
+  closes = λ before output r after call. call;
 }
 
 -- ---- devices
@@ -81,9 +82,14 @@ module _ {S I O : Type 0} (may more : MayDo S I O) (also : Allows may more) wher
     left = f.left;
     written = f.written;
     closed = f.closed;
+    ended = f.ended;
+    closing = f.closing;
     finished = f.finished;
-    closes = also.closes before f.written f.closed f.closes;
+    remarks = f.remarks;
+    remarked = f.remarked;
+    closes = also.closes before f.written f.closing f.closed f.closes;
     releases = also.releases f.closed f.left after f.releases;
+    ending_is = f.ending_is;
   }
 
   moves_part : (part path : List ℕ) (before : S) (naming : Naming) (after : S) → MovesPart may part path before naming after → MovesPart more part path before naming after
@@ -133,11 +139,11 @@ module _ {S I O F : Type 0} (may more : MayDo S I O) (also : Allows may more) (d
   gives_second part path base before naming after (parts.linked t u call is) = parts.linked t u (can.link before part path _ after call) is
   gives_second part path base before naming after (parts.not_linked x tried t u call m) = parts.not_linked x tried t u (can.link before part path _ tried call) (moves_if_free part path base tried naming after m)
 
-  pub gives_name : (part path : List ℕ) (base : ℕ) (before : S) (naming : Naming) (after : S) → GivesName may d part path base before naming after → GivesName more e part path base before naming after
+  pub gives_name : {modes : Modes} (part path : List ℕ) (base : ℕ) (before : S) (naming : Naming) (after : S) → GivesName may d modes part path base before naming after → GivesName more e modes part path base before naming after
   gives_name part path base before naming after (parts.no_way x m n) = parts.no_way x (makes_way d e can path base before (Err x) after m) n
   gives_name part path base before naming after (parts.on_its_way has_way m g) = parts.on_its_way has_way (makes_way d e can path base before (Ok _) has_way m) (gives_second part path base has_way naming after g)
 
-  pub gives_free : (part path : List ℕ) (base : ℕ) (before : S) (naming : Naming) (after : S) → GivesFreeName may d part path base before naming after → GivesFreeName more e part path base before naming after
+  pub gives_free : {modes : Modes} (part path : List ℕ) (base : ℕ) (before : S) (naming : Naming) (after : S) → GivesFreeName may d modes part path base before naming after → GivesFreeName more e modes part path base before naming after
   gives_free part path base before naming after (instance.not_free place f nf is) = instance.not_free place (finds d e can.sees path base before place after f) nf is
   gives_free part path base before naming after (instance.free place looked f nf g) = instance.free place looked (finds d e can.sees path base before place looked f) nf (gives_name part path base looked naming after g)
 

@@ -1,6 +1,7 @@
 -- A name that was written has its output.
 use Rattle.std.specs.Prelude.{[]}
 use Rattle.std.proofs.Common.{◌≡◌, ◌∙◌, refl, sym, ap, subst, ℕ, ◌+◌, List, length, Bool, true, false, Some, None, Result, Ok, Err}
+use Rattle.dcm_lemmas.proofs.Truth.{true_false}
 use Rattle.dcm_devices.specs.Writing.{Writer}
 use Rattle.dcm_walk.specs.Names.{below}
 use Rattle.dcm_walk.specs.Visits.{Named}
@@ -30,7 +31,7 @@ use Rattle.dcm_tree_laws.specs.FileSystem.{FileSystem, Host, may_do, folders_do}
 use Rattle.dcm_tree_laws.specs.Laws.{over}
 use Rattle.dcm_tree_laws.proofs.Near.{IsNear}
 use Rattle.dcm_tree_laws.proofs.Files.{path_is}
-pub use Rattle.dcm_tree_laws.proofs.Filling.{always_gives}
+use Rattle.dcm_tree_laws.proofs.Closing.{finished_of}
 use Rattle.dcm_tree_laws.proofs.Filling.{opens_file, part_is_made, part_is_new, is_filled_as}
 pub use Rattle.dcm_tree_laws.proofs.Gives.{GivesOutput, OpenGives, FileGives}
 use Rattle.dcm_tree_laws.proofs.Given.{IsReady, NewOutput, name_given, cleared_new, written_named}
@@ -41,9 +42,6 @@ use Rattle.dcm_tree_laws.proofs.Steps.{Phase, idle, writing, whole, Steps, goes_
 
 -- ---- fates that are no outputs
 
-pub true_false : (b : Bool) → b ≡ true → b ≡ false → ⊥
-true_false b e f = absurd (cc)
-
 pub not_ok : (r : Result Fate RunStop) (p : RunStop) (fate : Fate) → r ≡ Err p → r ≡ Ok fate → ⊥
 not_ok r p fate a b = absurd (cc)
 
@@ -53,7 +51,7 @@ not_written {A} fate other is not written = absurd (true_false (is_written fate)
 place_not : (place : Place) (continues : Bool) → is_written (place_fate place continues) ≡ false
 place_not places.There true = refl
 place_not places.There false = refl
-place_not places.Taken continues = refl
+place_not places.Barred continues = refl
 place_not places.Free continues = refl
 
 pub days_not : (cause : NoDays) → is_written (no_days_fate cause) ≡ false
@@ -103,7 +101,7 @@ filled_named : {I O F E : Type 0} (h : Host I O) (IsWhole : ℕ → List ℕ →
 filled_named h IsWhole r w e job m name path relative is mode input output gives new from start before fate to after i (part_spec.not_done ending was_filled fills done told removes f) written = not_written fate (ending_fate ending) f done written
 filled_named {I} {O} {F} h IsWhole r w e job m name path relative is mode input output gives new from start before fate to after i (part_spec.has_done ending was_filled told fills done reports names) written =
     output_named {I = I} {F = F} h IsWhole r w e m name path relative (h.took fills.written) is (ending_fate ending) told start was_filled fate to after
-    (is_ready (h.took fills.written) (more i (is_filled_as h IsWhole r w m.part m.output (h.masked mode) job input output before ending was_filled fills (gives fills.left output fills.written ending new fills.finished done)))) names written
+    (is_ready (h.took fills.written) (more i (is_filled_as h IsWhole r w m.part m.output (h.masked mode) job input output before ending was_filled fills done (gives fills.left output fills.written ending new (finished_of fills done) done)))) names written
 
 pub tells_not : {E : Type 0} (e : Writer E) (name : List ℕ) (cause : NoPart) (from : E) (r : Result Fate RunStop) (to : E) (fate : Fate) → TellsNoPart e name cause from r to → r ≡ Ok fate → is_written fate ≡ false
 tells_not e name cause from r to fate (part_spec.ends_run p c t is) ok = absurd (not_ok r p fate is ok)

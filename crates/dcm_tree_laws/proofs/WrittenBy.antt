@@ -3,6 +3,7 @@ use Rattle.std.specs.Prelude.{[]}
 use Rattle.std.proofs.Common.{◌≡◌, ◌∙◌, refl, sym, ap, subst, ℕ, List, true, false, Some, Result, Ok, Err}
 use Rattle.dcm_devices.specs.Writing.{Writer}
 use Rattle.dcm_instance.specs.declared.names.Instance.{Instance}
+use Rattle.dcm_tree_laws.proofs.Touched.{no_done}
 use Rattle.dcm_walk.specs.Names.{below}
 use Rattle.dcm_walk.specs.Visits.{Named}
 use Rattle.dcm_walk.specs.declared.visitor.What.{What}
@@ -25,6 +26,7 @@ use Rattle.dcm_trees.specs.Work.{name_in}
 use Rattle.dcm_tree_laws.specs.FileSystem.{FileSystem, Host}
 use Rattle.dcm_tree_laws.specs.Laws.{over}
 use Rattle.dcm_tree_laws.proofs.Files.{path_is}
+use Rattle.dcm_tree_laws.proofs.Closing.{finished_of}
 use Rattle.dcm_tree_laws.proofs.Filling.{opens_file, part_is_made, part_is_new, is_filled_as}
 use Rattle.dcm_tree_laws.proofs.Given.{IsReady, NewOutput, then_steps, free_name_given, cleared_new, written_named}
 use Rattle.dcm_tree_laws.proofs.Jobs.{finds_job, finds_instance, finds_copy}
@@ -66,14 +68,11 @@ filled_out : {I O F E : Type 0} (h : Host I O) (IsWhole : ℕ → List ℕ → T
 filled_out h IsWhole r w e job m name relative mode input output gives new from start before done to after i (instance.not_done ending was_filled fills not told removes is) written = no_output done (ending_fate ending) is not written
 filled_out {I} {O} {F} h IsWhole r w e job m name relative mode input output gives new from start before done to after i (instance.has_done ending was_filled told fills is reports names) written =
     part_out {F = F} h IsWhole r w e m name relative (h.took fills.written) (ending_fate ending) told start was_filled done to after
-    (is_ready (h.took fills.written) (more i (is_filled_as h IsWhole r w m.part m.output (h.masked mode) job input output before ending was_filled fills (gives fills.left output fills.written ending new fills.finished is)))) names written
-
-pub no_ok : (r : Result Done RunStop) (p : RunStop) (done : Done) → r ≡ Err p → r ≡ Ok done → ⊥
-no_ok r p done a b = absurd (cc)
+    (is_ready (h.took fills.written) (more i (is_filled_as h IsWhole r w m.part m.output (h.masked mode) job input output before ending was_filled fills is (gives fills.left output fills.written ending new (finished_of fills is) is)))) names written
 
 not_unnamed : (became : Result Fate RunStop) (r : Result Done RunStop) (done : Done) → r ≡ unnamed became → r ≡ Ok done → ((fate : Fate) → became ≡ Ok fate → is_written fate ≡ false) → is_written done.fate ≡ false
 not_unnamed (Ok fate) r done is ok not = ap (λ (d : Done). is_written d.fate) (same_ok r (without_name fate) done is ok) ∙ not fate refl
-not_unnamed (Err p) r done is ok not = absurd (no_ok r p done is ok)
+not_unnamed (Err p) r done is ok not = absurd (no_done r p done is ok)
 
 pub ends_not : {E : Type 0} (e : Writer E) (name : List ℕ) (cause : NoPart) (from : E) (r : Result Done RunStop) (to : E) (done : Done) → EndsWithoutPart e name cause from r to → r ≡ Ok done → is_written done.fate ≡ false
 ends_not e name cause from r to done (instance.ended became tells is) ok = not_unnamed became r done is ok (λ fate was. tells_not e name cause from became to fate tells was)
@@ -105,7 +104,7 @@ kept_out {I} {O} {F} h IsWhole r w e m n mode from start before (Ok fate) result
     let same : done ≡ without_name fate = same_ok result (without_name fate) done is ok in
     subst (λ (d : Done). OutputOf h IsWhole m n.relative d start after) (sym same)
     (named_named {F = F} h IsWhole r w e m n mode from start before (Ok fate) to after fate gives i does refl (ap (λ (d : Done). is_written d.fate) (sym same) ∙ written))
-kept_out h IsWhole r w e m n mode from start before (Err p) result to after done gives i does is ok written = absurd (no_ok result p done is ok)
+kept_out h IsWhole r w e m n mode from start before (Err p) result to after done gives i does is ok written = absurd (no_done result p done is ok)
 
 file_out : {I O F E : Type 0} (h : Host I O) (IsWhole : ℕ → List ℕ → Type 0) (r : Reader I) (w : Writer O) (e : Writer E) (m : Manner) (n : Named) (mode : ℕ) (from : E) (start before : FileSystem) (result : Result Done RunStop) (to : E) (after : FileSystem) (done : Done)
     → FileGives h IsWhole r w m.task n.path mode before → IsIdle h IsWhole m.part m.output idle start before → DoesFile (over {F = F} h r w e) m n mode from before result to after → result ≡ Ok done → is_written done.fate ≡ true → OutputOf h IsWhole m n.relative done start after

@@ -55,6 +55,7 @@ pub record IsThere {I O : Type 0} (h : Host I O) (output relative : List ℕ) (t
 abbrev pub sure : {S O F : Type 0} → FoldersDo S O F → FoldersDo S O F
 sure d = record d {
   finds = λ before path links r after. d.finds before path links r after × ((e : Error) → r ≢ Err e);
+  modes = λ before folder name r after. d.modes before folder name r after × ((e : Error) → r ≢ Err e);
 }
 
 -- nothing is opened, moved, removed or closed, and no other call is made
@@ -68,16 +69,18 @@ no_calls = record {
   creates = λ before path r after. ⊥;
   looks = λ before path r after. ⊥;
   makes = λ before path r after. ⊥;
+  seizes = λ before path r after. ⊥;
+  holds = λ before path r after. ⊥;
   keeps = λ before from to r after. ⊥;
   moves = λ before from to r after. ⊥;
   removes = λ before path r after. ⊥;
-  closes = λ before d after. ⊥;
+  closes = λ before d r after. ⊥;
 }
 
 -- nothing is made, and nothing gets a second name
 abbrev pub no_making : {S O F : Type 0} → FoldersDo S O F → FoldersDo S O F
 no_making d = record d {
-  makes_folder = λ before path r after. ⊥;
+  makes_folder = λ before path mode r after. ⊥;
   makes_as = λ before path mode r after. ⊥;
   links = λ before from to r after. ⊥;
 }

@@ -11,9 +11,9 @@ use Rattle.dcm_trees.specs.declared.beginning.Refusal.{Refusal}
 use Rattle.dcm_trees.specs.declared.run.TreeRun.{TreeRun}
 use Rattle.dcm_trees.specs.Beginning.{above, parent_of}
 use Rattle.dcm_trees.specs.Run.{PutsFirstRow, EndsUnwritten}
-use Rattle.dcm_trees.specs.Tree.{VisitsAll, Refuses, DoesTree}
+use Rattle.dcm_trees.specs.Tree.{VisitsAll, Refuses, DoesTree, part_of}
 use Rattle.dcm_trees.specs.World.{World}
-use Rattle.dcm_tree_laws.specs.Course.{IsNumberAt, Ready}
+use Rattle.dcm_tree_laws.specs.Course.{IsNumberAt, Ready, TellsLeft}
 use Rattle.dcm_tree_laws.specs.FileSystem.{FileSystem, Host, Tree, begins}
 use Rattle.dcm_tree_laws.specs.Laws.{over}
 use Rattle.dcm_tree_laws.specs.Visited.{IsIn, NamesItself, over_telling}
@@ -65,14 +65,17 @@ IsEmpty h t path = (name : List ℕ) → ¬ (IsIn h t path name)
 pub data BeginsSo {I O F W E : Type 0} (h : Host I O) (w : World FileSystem I O F E) (m : Writer W)
     (IsSo : FolderNumber → Tree → Type 0) (run : TreeRun) (path : List ℕ) (start : Tree) (manifest : W) (from : E)
     (status : ℕ) (left : W) (to : E) (after : FileSystem) : Type 0 where
-  refused : (refusal : Refusal) → Refuses w.errors run refusal from status to → left ≡ manifest
+  refused : (refusal : Refusal) (told : E) → TellsLeft w.errors (part_of run) from told
+      → Refuses w.errors run refusal told status to → left ≡ manifest
       → BeginsSo h w m IsSo run path start manifest from status left to after
-  no_header : (failure : WriteFailed) → PutsFirstRow m run.options.has_header manifest (Err failure) left
-      → EndsUnwritten w.errors run.options.counts from status to
+  no_header : (failure : WriteFailed) (told : E) → TellsLeft w.errors (part_of run) from told
+      → PutsFirstRow m run.options.has_header manifest (Err failure) left
+      → EndsUnwritten w.errors run.options.counts told status to
       → BeginsSo h w m IsSo run path start manifest from status left to after
-  visited : (opened : F) (begun : Begun) (headed : W) (mid : FileSystem)
+  visited : (opened : F) (begun : Begun) (headed : W) (told : E) (mid : FileSystem)
+      → TellsLeft w.errors (part_of run) from told
       → PutsFirstRow m run.options.has_header manifest (Ok _) headed → Ready h run start begun mid
-      → IsSo begun.number mid.now → VisitsAll w m run path begun opened headed from mid status left to after
+      → IsSo begun.number mid.now → VisitsAll w m run path begun opened headed told mid status left to after
       → BeginsSo h w m IsSo run path start manifest from status left to after
 
 -- so it is of each run over a folder that meets something

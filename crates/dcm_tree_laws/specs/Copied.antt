@@ -58,7 +58,7 @@ FileIsSettled h part output v done = FileIs (IsSettled h part output v) v done
 -- or another file was at the path of the instance in it, which is another place than the part
 pub data IsSettledAs {I O : Type 0} (h : Host I O) (part output : List ℕ) (v : Visit) (done : Done) : Type 0 where
   is_so : IsSettled h part output v done → IsSettledAs h part output v done
-  has_other : done.fate ≡ fates.Occupied → IsElsewhere h part output v done → IsSettledAs h part output v done
+  has_other : done.fate ≡ fates.Taken → IsElsewhere h part output v done → IsSettledAs h part output v done
 
 abbrev pub FileIsSettledAs : {I O : Type 0} → Host I O → (part output : List ℕ) → Visit → Done → Type 0
 FileIsSettledAs h part output v done = FileIs (IsSettledAs h part output v) v done

@@ -10,11 +10,15 @@ use Rattle.dcm_files.specs.declared.folders.Links.TheVariants.{Followed}
 use Rattle.dcm_instance.specs.declared.names.NoInstance.{NoInstance}
 use Rattle.dcm_instance.specs.ReadInstance.{FileNames}
 use Rattle.dcm_instance.specs.Uids.{Uids, instance_name}
+use Rattle.dcm_words.specs.Words.{Job}
 use Rattle.dcm_walk.specs.Folder.{WalksFolder}
 use Rattle.dcm_walk.specs.List.{WalksList}
 use Rattle.dcm_walk.specs.Visits.{Named}
 use Rattle.dcm_walk.specs.declared.visitor.What.TheVariants.{File}
 use Rattle.dcm_cli.specs.Calls.{Reader, Reports}
+use Rattle.dcm_cli.specs.Run.{Remarked}
+use Rattle.dcm_cli.specs.declared.ending.Ending.TheVariants.{Worked}
+use Rattle.dcm_cli.specs.declared.ending.Remarks.{Remarks}
 use Rattle.dcm_cli.specs.declared.ending.Verdict.{Verdict}
 use Rattle.dcm_trees.specs.declared.beginning.Begun.{Begun}
 use Rattle.dcm_trees.specs.declared.fate.Fate.{Fate}
@@ -26,7 +30,7 @@ use Rattle.dcm_trees.specs.declared.run.TreeRun.{TreeRun}
 use Rattle.dcm_trees.specs.Fate.{is_written, fate_of, word}
 use Rattle.dcm_trees.specs.File.{DoesName, is_media_index}
 use Rattle.dcm_trees.specs.Instance.{without_name, no_instance_fate}
-use Rattle.dcm_trees.specs.Lines.{verdict_fate, verdict_lines}
+use Rattle.dcm_trees.specs.Lines.{ended_lines, verdict_fate}
 use Rattle.dcm_trees.specs.Manner.{Manner}
 use Rattle.dcm_trees.specs.Share.{is_of}
 use Rattle.dcm_trees.specs.Task.{Task, task_of}
@@ -40,7 +44,7 @@ use Rattle.dcm_tree_laws.specs.Laws.{part_path}
 use Rattle.dcm_tree_laws.specs.OneRow.{RowsOf}
 pub use Rattle.dcm_tree_laws.specs.Outputs.{IsNamedBy}
 use Rattle.dcm_tree_laws.specs.Rows.{Visit, noted}
-use Rattle.dcm_tree_laws.specs.Single.{TellsAll}
+use Rattle.dcm_tree_laws.specs.Single.{IsJobOf, TellsAll}
 
 -- ---- an output that is there
 
@@ -85,19 +89,28 @@ pub record IsThereAs (uids : Uids) (done : Done) : Type 0 where
   pub fate_is : done.fate ≡ fates.There
   pub named : IsNamedBy uids done
 
--- only what its job came to is told
-pub record TellsOnly {E : Type 0} (errors : Writer E) (name : List ℕ) (verdict : Verdict) (from to : E) : Type 0 where
+-- what is remarked of a file with these bytes
+pub record IsRemarked (task : Task) (bytes : List ℕ) (remarks : Remarks) : Type 0 where
+  pub job : Job
+  pub is_job : IsJobOf task bytes job
+  pub remarked : Remarked job bytes remarks
+
+-- only what its job came to is told, and what is remarked
+pub record TellsOnly {E : Type 0} (errors : Writer E) (name : List ℕ) (task : Task) (bytes : List ℕ) (verdict : Verdict)
+    (from to : E) : Type 0 where
+  pub remarks : Remarks
+  pub remarked : IsRemarked task bytes remarks
   pub mid : E
-  pub told : Reports errors from mid (verdict_lines name verdict)
+  pub told : Reports errors from mid (ended_lines name (Worked verdict) remarks)
   pub no_more : Reports errors mid to []
 
 -- a file whose copy is there is done again, and left: it has that row, and nothing is changed
-pub record IsDoneAgain {E : Type 0} (errors : Writer E) (n : Named) (uids : Uids) (verdict : Verdict) (from : E)
-    (before : FileSystem) (r : Result Done RunStop) (to : E) (after : FileSystem) : Type 0 where
+pub record IsDoneAgain {E : Type 0} (errors : Writer E) (n : Named) (uids : Uids) (task : Task) (bytes : List ℕ)
+    (verdict : Verdict) (from : E) (before : FileSystem) (r : Result Done RunStop) (to : E) (after : FileSystem) : Type 0 where
   pub done : Done
   pub row : r ≡ Ok done
   pub there : IsThereAs uids done
-  pub told : TellsOnly errors n.name verdict from to
+  pub told : TellsOnly errors n.name task bytes verdict from to
   pub same : IsAsItWas before.now after.now
 
 -- so it is where no call fails that need not, and the part was removed
@@ -108,7 +121,8 @@ CopyIsLeft {I} {O} {E} F reader output errors =
     → is_media_index n.relative ≡ false → IsUtf8 m.part → at_path h before.now m.part ≡ None
     → FollowsLinks h before.now → FilesFit before.now → (c : HasCopy h m.task m.output before.now n.path uids)
     → DoesName (working {F = F} h reader output errors) m n (File mode) from before r to after
-    → after.unremoved ≡ false → IsDoneAgain errors n uids c.verdict from before r to after
+    → after.unremoved ≡ false
+    → IsDoneAgain errors n uids m.task (before.now.bytes (number_of c.input.file)) c.verdict from before r to after
 
 -- ---- a file that ends without a name
 
@@ -170,7 +184,7 @@ pub data Stands {I O : Type 0} (h : Host I O) (task : Task) (output : List ℕ) 
     : Type 0 where
   of_copy : (mode : ℕ) → v.what ≡ File mode → is_media_index v.named.relative ≡ false
       → fate_again done.fate ≡ fates.There → HasCopyOf h task output t v.named.path done → Stands h task output t v done
-  of_other : (mode : ℕ) → v.what ≡ File mode → is_media_index v.named.relative ≡ false → done.fate ≡ fates.Occupied
+  of_other : (mode : ℕ) → v.what ≡ File mode → is_media_index v.named.relative ≡ false → done.fate ≡ fates.Taken
       → HasOtherOf h task output t v.named.path done → Stands h task output t v done
   unnamed : (mode : ℕ) → v.what ≡ File mode → is_media_index v.named.relative ≡ false → (f : HasFile h t v)
       → EndsUnnamed task (t.bytes (number_of f.file.file)) done.fate → is_written done.fate ≡ false

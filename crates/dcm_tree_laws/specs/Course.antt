@@ -1,11 +1,11 @@
 -- What a run over a tree comes to: it is refused, or the names of its tree are visited from such a state.
-use Rattle.std.specs.Prelude.{◌≡◌, ◌⊎◌, ℕ, List, false, Some, None, Ok, Err}
+use Rattle.std.specs.Prelude.{◌≡◌, ◌⊎◌, ℕ, List, Bool, false, Some, None, Ok, Err}
 use Rattle.std.specs.Str.{IsUtf8}
 use Rattle.dcm_devices.specs.declared.device.WriteFailed.{WriteFailed}
 use Rattle.dcm_devices.specs.Writing.{Writer}
 use Rattle.dcm_files.specs.Devices.{OpensInput}
 use Rattle.dcm_files.specs.declared.folders.Found.{Found}
-use Rattle.dcm_files.specs.declared.folders.FoundKind.TheVariants.{Folder}
+use Rattle.dcm_files.specs.declared.folders.FoundKind.TheVariants.{File, Folder}
 use Rattle.dcm_files.specs.declared.folders.Links.TheVariants.{Followed}
 use Rattle.dcm_files.specs.declared.opened.Opened.{Opened}
 use Rattle.dcm_names.specs.NamedLines.{unopened_line}
@@ -17,7 +17,8 @@ use Rattle.dcm_trees.specs.declared.beginning.Begun.{Begun}
 use Rattle.dcm_trees.specs.declared.beginning.Refusal.{Refusal}
 use Rattle.dcm_trees.specs.declared.run.TreeRun.{TreeRun}
 use Rattle.dcm_trees.specs.Run.{PutsFirstRow, EndsUnwritten}
-use Rattle.dcm_trees.specs.Tree.{OpensTree, VisitsAll, VisitsListed, Refuses, DoesTree}
+use Rattle.dcm_trees.specs.Beginning.{left_line}
+use Rattle.dcm_trees.specs.Tree.{OpensTree, VisitsAll, VisitsListed, Refuses, DoesTree, part_of}
 use Rattle.dcm_trees.specs.World.{World}
 use Rattle.dcm_tree_laws.specs.Again.{over_sure}
 use Rattle.dcm_tree_laws.specs.Determined.{working}
@@ -33,10 +34,25 @@ pub record IsMade {I O : Type 0} (h : Host I O) (output place : List ℕ) (start
   pub is : now.at place ≡ Some made
   pub kind : made.kind ≡ Folder
 
--- no more was done than to make that folder: at each other place is what was there, and each file has its bytes
-pub record OnlyOutput {I O : Type 0} (h : Host I O) (output : List ℕ) (start now : Tree) : Type 0 where
-  pub names : (place : List ℕ) → (now.at place ≡ start.at place) ⊎ IsMade h output place start now
+-- it is that of the part: a regular file was there, which was left over, and nothing is
+pub record IsCleared {I O : Type 0} (h : Host I O) (part place : List ℕ) (start now : Tree) : Type 0 where
+  pub of_part : place ≡ place_of h part
+  pub was : Found
+  pub was_there : start.at place ≡ Some was
+  pub kind : was.kind ≡ File
+  pub gone : now.at place ≡ None
+
+-- no more was done than to make that folder, and to remove what was left over: at each other place is what was there,
+-- and each file has its bytes
+pub record OnlyOutput {I O : Type 0} (h : Host I O) (output part : List ℕ) (start now : Tree) : Type 0 where
+  pub names : (place : List ℕ)
+      → (now.at place ≡ start.at place) ⊎ (IsMade h output place start now ⊎ IsCleared h part place start now)
   pub bytes : SameBytes start now
+
+-- that a part was left over is told, or nothing is
+pub data TellsLeft {E : Type 0} (e : Writer E) (part : List ℕ) (from told : E) : Type 0 where
+  nothing_told : told ≡ from → TellsLeft e part from told
+  was_told : (was_left : Bool) → Reports e from told (left_line part was_left) → TellsLeft e part from told
 
 -- it is the number of what is at a path, links followed
 pub record IsNumberAt {I O : Type 0} (h : Host I O) (t : Tree) (path : List ℕ) (number : FolderNumber) : Type 0 where
@@ -54,7 +70,7 @@ pub record Ready {I O : Type 0} (h : Host I O) (run : TreeRun) (start : Tree) (b
   pub part_is : begun.part.items ≡ part_path run
   pub text : IsUtf8 (part_path run)
   pub no_part : at_path h now.now (part_path run) ≡ None
-  pub only : OnlyOutput h run.output.now start now.now
+  pub only : OnlyOutput h run.output.now (part_path run) start now.now
   pub number : IsNumberAt h now.now run.output.now begun.number
 
 -- It is refused before its first name, and the manifest is as it was. Or the first row of the manifest could not be
@@ -64,23 +80,28 @@ pub record Ready {I O : Type 0} (h : Host I O) (run : TreeRun) (start : Tree) (b
 pub data ComesTo {I O F W E : Type 0} (h : Host I O) (w : World FileSystem I O F E) (rows : Writer W) (run : TreeRun)
     (source : Source) (start : Tree) (manifest : W) (from : E) (status : ℕ) (left : W) (to : E) (after : FileSystem)
     : Type 0 where
-  refused : (refusal : Refusal) → Refuses w.errors run refusal from status to → left ≡ manifest
-      → OnlyOutput h run.output.now start after.now
+  refused : (refusal : Refusal) (told : E) → TellsLeft w.errors (part_of run) from told
+      → Refuses w.errors run refusal told status to → left ≡ manifest
+      → OnlyOutput h run.output.now (part_path run) start after.now
       → ComesTo h w rows run source start manifest from status left to after
   no_list : (path : List ℕ) → source ≡ list path → Reports w.errors from to (unopened_line path) → status ≡ DEVICE
       → left ≡ manifest → after ≡ begins start → ComesTo h w rows run source start manifest from status left to after
-  no_header : (failure : WriteFailed) → PutsFirstRow rows run.options.has_header manifest (Err failure) left
-      → EndsUnwritten w.errors run.options.counts from status to → OnlyOutput h run.output.now start after.now
+  no_header : (failure : WriteFailed) (told : E) → TellsLeft w.errors (part_of run) from told
+      → PutsFirstRow rows run.options.has_header manifest (Err failure) left
+      → EndsUnwritten w.errors run.options.counts told status to
+      → OnlyOutput h run.output.now (part_path run) start after.now
       → ComesTo h w rows run source start manifest from status left to after
-  in_folder : (path : List ℕ) (opened : F) (begun : Begun) (headed : W) (mid : FileSystem) → source ≡ folder path
+  in_folder : (path : List ℕ) (opened : F) (begun : Begun) (headed : W) (told : E) (mid : FileSystem)
+      → source ≡ folder path → TellsLeft w.errors (part_of run) from told
       → OpensTree w.folders path (begins start) (Some opened) (begins start)
       → PutsFirstRow rows run.options.has_header manifest (Ok _) headed → Ready h run start begun mid
-      → VisitsAll w rows run path begun opened headed from mid status left to after
+      → VisitsAll w rows run path begun opened headed told mid status left to after
       → ComesTo h w rows run source start manifest from status left to after
-  in_list : (path : List ℕ) (opened : Opened I) (begun : Begun) (headed : W) (mid : FileSystem) (read : I)
-      → source ≡ list path → OpensInput w.may path (begins start) (Ok opened) (begins start)
+  in_list : (path : List ℕ) (opened : Opened I) (begun : Begun) (headed : W) (told : E) (mid : FileSystem) (read : I)
+      → source ≡ list path → TellsLeft w.errors (part_of run) from told
+      → OpensInput w.may path (begins start) (Ok opened) (begins start)
       → PutsFirstRow rows run.options.has_header manifest (Ok _) headed → Ready h run start begun mid
-      → VisitsListed w rows run path begun opened.device headed from mid status left to after read
+      → VisitsListed w rows run path begun opened.device headed told mid status left to after read
       → ComesTo h w rows run source start manifest from status left to after
 
 -- so it is of each run over such a world

@@ -67,16 +67,16 @@ abbrev pub UnlessNamed : {A I O : Type 0} → Host I O → Tree → (from to : L
 UnlessNamed h t from to (Ok a) = Unit {0}
 UnlessNamed h t from to (Err e) = at_path h t from ≢ None → at_path h t to ≢ None
 
--- of an output that is closed no call failed
+-- of an output that is closed no call failed, and its closing does not fail
 abbrev pub working_may : {I O : Type 0} → Host I O → Reader I → Writer O → MayDo FileSystem I O → MayDo FileSystem I O
 working_may h reader output may = record may {
   opens = λ before path r after. may.opens before path r after × OpensFound h reader before.now path r;
-  closes = λ before d after. may.closes before d after × (output.has_failed d ≡ false);
+  closes = λ before d r after. may.closes before d (Ok _) after × (output.has_failed d ≡ false) × (r ≡ Ok _);
 }
 
 abbrev pub working_folders : {I O F : Type 0} → Host I O → FoldersDo FileSystem O F → FoldersDo FileSystem O F
 working_folders h d = record d {
-  makes_folder = λ before path r after. d.makes_folder before path r after × UnlessThere h before.now path r;
+  makes_folder = λ before path mode r after. d.makes_folder before path mode r after × UnlessThere h before.now path r;
   makes_as = λ before path mode r after. d.makes_as before path mode r after × UnlessThere h before.now path r;
   links = λ before from to r after. d.links before from to r after × UnlessNamed h before.now from to r;
 }

@@ -63,6 +63,19 @@ abbrev pub HoldsFile : {I O : Type 0} → Host I O → Tree → (path : List ℕ
 HoldsFile h t path input = (f : Found) → t.at (h.leads Followed path) ≡ Some f → f.kind ≡ File
     → h.holds input ≡ t.bytes (number_of f)
 
+-- where the folder of a name in a folder is, a link at its end not followed; of no name where that folder is, which
+-- may be at a link
+abbrev pub place_below : {I O : Type 0} → Host I O → (folder name : List ℕ) → List ℕ
+place_below h folder [] = h.leads Followed folder
+place_below h folder (b ∷ bs) = h.leads Kept (below folder (b ∷ bs))
+
+-- a folder is there, and has this mode
+pub record HasMode {I O : Type 0} (h : Host I O) (t : Tree) (folder name : List ℕ) (mode : ℕ) : Type 0 where
+  pub found : Found
+  pub is : t.at (place_below h folder name) ≡ Some found
+  pub kind : found.kind ≡ Folder
+  pub mode_is : found.mode ≡ mode
+
 -- nothing has this number
 abbrev pub IsFresh : Tree → Number → Type 0
 IsFresh t n = (place : List ℕ) (f : Found) → t.at place ≡ Some f → number_of f ≢ n
@@ -95,11 +108,13 @@ pub record Notes (written : Option Number) (before after : FileSystem) : Type 0 
 
 -- ---- calls that change it
 
--- where nothing is there is a folder
-pub record MakesFolder {I O : Type 0} (h : Host I O) (path : List ℕ) (before after : FileSystem) : Type 0 where
+-- where nothing is there is a folder, with what is left of the bits of a mode
+pub record MakesFolder {I O : Type 0} (h : Host I O) (path : List ℕ) (mode : ℕ) (before after : FileSystem)
+    : Type 0 where
   pub made : Found
   pub nothing : at_path h before.now path ≡ None
   pub kind : made.kind ≡ Folder
+  pub bits : made.mode ≡ h.masked mode
   pub fresh : IsFresh before.now (number_of made)
   pub puts : Puts (place_of h path) (Some made) before.now after.now
   pub bytes : SameBytes before.now after.now
@@ -128,18 +143,24 @@ pub data TakesPieces (n : Number) (all : List ℕ) (before : FileSystem) : (afte
   and_piece : {after : FileSystem} (mid : FileSystem) (front rest : List ℕ) → TakesPieces n all before mid
       → all ≡ front ++ rest → Takes n front mid after → TakesPieces n all before after
 
--- and then it has all of them, and is no longer being written
-pub record Closes (n : Number) (all : List ℕ) (before after : FileSystem) : Type 0 where
+-- and then it keeps these bytes, and is no longer being written
+pub record Closes (n : Number) (all kept : List ℕ) (before after : FileSystem) : Type 0 where
   pub last : FileSystem
   pub pieces : TakesPieces n all before last
-  pub fills : Fills n all last.now after.now
+  pub fills : Fills n kept last.now after.now
   pub names : SameNames last.now after.now
   pub notes : Notes None last after
 
 -- an output is closed: that of the file that is being written, or else standard output
-abbrev pub ClosesOutput : Option Number → (all : List ℕ) → (before after : FileSystem) → Type 0
-ClosesOutput (Some n) all before after = Closes n all before after
-ClosesOutput None all before after = after ≡ before
+abbrev pub ClosesOutput : Option Number → (all kept : List ℕ) → (before after : FileSystem) → Type 0
+ClosesOutput (Some n) all kept before after = Closes n all kept before after
+ClosesOutput None all kept before after = after ≡ before
+
+-- a file keeps all bytes that it took, unless its closing fails: then it may have any bytes
+abbrev pub ClosesAs : {A : Type 0} → Result A Error → Option Number → (all : List ℕ) → (before after : FileSystem)
+    → Type 0
+ClosesAs (Ok a) now all before after = ClosesOutput now all all before after
+ClosesAs (Err e) now all before after = (kept : List ℕ) × ClosesOutput now all kept before after
 
 -- where nothing is there is what is at another path too: it is the same thing, with a second name
 pub record MakesLink {I O : Type 0} (h : Host I O) (from to : List ℕ) (before after : FileSystem) : Type 0 where
@@ -199,10 +220,11 @@ may_do h = record anything {
   stdin = λ before d after. after ≡ before;
   opens = λ before path r after. (after ≡ before) × IfOk r (λ o. HoldsFile h before.now path o.device);
   releases = λ before d after. after ≡ before;
+  seizes = λ before path r after. after ≡ before;
   stdout = λ before r after. after ≡ before;
   moves = λ before from to r after. OrFails r (MovesWhat h from to before after) before after;
   removes = λ before path r after. OrStays r (Removes h path before after) before after;
-  closes = λ before d after. ClosesOutput before.written (h.took d) before after;
+  closes = λ before d r after. ClosesAs r before.written (h.took d) before after;
 }
 
 abbrev pub folders_do : {I O F : Type 0} → Host I O → FoldersDo FileSystem O F
@@ -211,7 +233,8 @@ folders_do h = record {
   names = λ before folder r left after. after ≡ before;
   closes_folder = λ before folder after. after ≡ before;
   finds = λ before path links r after. IfOk r (λ found. found ≡ before.now.at (h.leads links path)) × (after ≡ before);
-  makes_folder = λ before path r after. OrFails r (MakesFolder h path before after) before after;
+  modes = λ before folder name r after. IfOk r (λ mode. HasMode h before.now folder name mode) × (after ≡ before);
+  makes_folder = λ before path mode r after. OrFails r (MakesFolder h path mode before after) before after;
   makes_as = λ before path mode r after.
       OrFails r (MakesFile h path mode before after) before after × IfOk r (λ o. h.took o.device ≡ []);
   links = λ before from to r after. OrFails r (MakesLink h from to before after) before after;

@@ -1,4 +1,4 @@
--- No output of a run over a tree is half under its name: each is whole, of the file of a name that was read in the run.
+-- An output of a run over a tree gets its name only when it is complete, of the file of a name that was read in the run.
 use Rattle.std.specs.Prelude.{◌≡◌, ◌≢◌, ℕ, List, [], Bool, true, Some, None, Ok}
 use Rattle.dcm_deid.specs.declared.fate.Options.{Options}
 use Rattle.dcm_devices.specs.Writing.{Writer}

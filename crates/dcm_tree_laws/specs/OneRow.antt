@@ -114,16 +114,16 @@ pub data HasManifest {S I O F W E : Type 0} (w : World S I O F E) (m : Writer W)
   no_header : (failure : WriteFailed) → status ≡ DEVICE
       → PutsFirstRow m run.options.has_header manifest (Err failure) left
       → HasManifest w m run source manifest from status left to after
-  of_folder : (path : List ℕ) (begun : Begun) (opened : F) (headed : W) (mid : S) → source ≡ folder path
-      → (v : VisitsAll w m run path begun opened headed from mid status left to after)
+  of_folder : (path : List ℕ) (begun : Begun) (opened : F) (headed : W) (told : E) (mid : S) → source ≡ folder path
+      → (v : VisitsAll w m run path begun opened headed told mid status left to after)
       → (v.last.stop ≡ None
-      → FolderHasManifest w m run path begun opened manifest headed from mid status left to after v)
+      → FolderHasManifest w m run path begun opened manifest headed told mid status left to after v)
       → HasManifest w m run source manifest from status left to after
-  of_list : (path : List ℕ) (begun : Begun) (input : I) (headed : W) (mid done : S) (read : I) → source ≡ list path
-      → (v : VisitsListed w m run path begun input headed from mid status left to done read)
+  of_list : (path : List ℕ) (begun : Begun) (input : I) (headed : W) (told : E) (mid done : S) (read : I)
+      → source ≡ list path → (v : VisitsListed w m run path begun input headed told mid status left to done read)
       → w.may.releases done read after
       → (v.last.stop ≡ None
-      → ListHasManifest w m run path begun input manifest headed from mid status left to done read v)
+      → ListHasManifest w m run path begun input manifest headed told mid status left to done read v)
       → HasManifest w m run source manifest from status left to after
 
 -- so it is of each run

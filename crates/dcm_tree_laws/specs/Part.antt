@@ -1,5 +1,5 @@
 -- The part is gone after a run over a tree.
-use Rattle.std.specs.Prelude.{◌≡◌, ◌≢◌, ℕ, List, false, None}
+use Rattle.std.specs.Prelude.{◌≡◌, ◌≢◌, ◌⊎◌, ℕ, List, false, None}
 use Rattle.dcm_devices.specs.Writing.{Writer}
 use Rattle.dcm_cli.specs.Calls.{Reader}
 use Rattle.dcm_tree_words.specs.Trees.{Source}
@@ -33,10 +33,15 @@ NoPartLeftByList {I} {O} {W} {E} F reader output m errors =
     after read
     → LeavesPart h (part_path run) before after
 
--- and of a run as a whole, where the part is not at the place of the folder of the outputs itself
+-- or nothing is there, where a part was left over
+abbrev pub LeavesNoPart : {I O : Type 0} → Host I O → (part : List ℕ) → (before after : FileSystem) → Type 0
+LeavesNoPart h part before after = after.unremoved ≡ false → (before.unremoved ≡ false)
+    × ((at_path h after.now part ≡ at_path h before.now part) ⊎ (at_path h after.now part ≡ None))
+
+-- that of a run as a whole, where the part is not at the place of the folder of the outputs itself
 abbrev pub NoPartAfterRun : {I O W E : Type 0} → (F : Type 0) → Reader I → Writer O → Writer W → Writer E → Type 0
 NoPartAfterRun {I} {O} {W} {E} F reader output rows errors =
     (h : Host I O) (run : TreeRun) (source : Source) (start : Tree) (manifest : W) (from : E) (status : ℕ) (left : W)
     (to : E) (after : FileSystem) → place_of h run.output.now ≢ place_of h (part_path run)
     → DoesTree (over {F = F} h reader output errors) rows run source manifest from (begins start) status left to after
-    → LeavesPart h (part_path run) (begins start) after
+    → LeavesNoPart h (part_path run) (begins start) after

@@ -60,9 +60,9 @@ pub data IsToldAs {I O : Type 0} (h : Host I O) (task : Task) (output : List ℕ
   told_as_there : (mode : ℕ) (bytes out : List ℕ) (uids : Uids) → IsInstanceOf h task output t v mode bytes out uids
       → HasFileAt h output (instance_name uids) t out → length out ≤ INPUT_LIMIT → done.fate ≡ fates.There
       → IsNamedBy uids done → IsToldAs h task output t v done
-  told_as_occupied : (mode : ℕ) (bytes out its : List ℕ) (uids : Uids)
+  told_as_taken : (mode : ℕ) (bytes out its : List ℕ) (uids : Uids)
       → IsInstanceOf h task output t v mode bytes out uids → HasFileAt h output (instance_name uids) t its → its ≢ out
-      → done.fate ≡ fates.Occupied → IsNamedBy uids done → IsToldAs h task output t v done
+      → done.fate ≡ fates.Taken → IsNamedBy uids done → IsToldAs h task output t v done
 
 -- a name has no output: it is no file, or the index of a medium; or it names no instance
 pub data HasNoOutput {I O : Type 0} (h : Host I O) (task : Task) (output : List ℕ) (t : Tree) (v : Visit) : Type 0 where

@@ -20,12 +20,13 @@ use Rattle.dcm_trees.specs.declared.beginning.Begun.{Begun}
 use Rattle.dcm_trees.specs.declared.beginning.Refusal.{Refusal}
 use Rattle.dcm_trees.specs.declared.run.TreeRun.{TreeRun}
 use Rattle.dcm_trees.specs.Run.{PutsFirstRow, EndsUnwritten}
-use Rattle.dcm_trees.specs.Tree.{VisitsAll, Refuses, DoesTree}
+use Rattle.dcm_trees.specs.Tree.{VisitsAll, Refuses, DoesTree, part_of}
 use Rattle.dcm_trees.specs.World.{World, world}
 use Rattle.dcm_tree_laws.specs.Again.{OfAll, sure}
-use Rattle.dcm_tree_laws.specs.Course.{Ready}
+use Rattle.dcm_tree_laws.specs.Course.{Ready, TellsLeft}
 use Rattle.dcm_tree_laws.specs.Determined.{FileAt}
 use Rattle.dcm_tree_laws.specs.FileSystem.{FileSystem, Tree, Host, begins, place_of, at_path, may_do, folders_do}
+use Rattle.dcm_tree_laws.specs.Laws.{part_path}
 use Rattle.dcm_tree_laws.specs.OneRow.{FolderHasRows}
 use Rattle.dcm_tree_laws.specs.Rows.{Visit}
 use Rattle.dcm_tree_laws.specs.Together.{Has}
@@ -168,15 +169,15 @@ AllTold h t folder output visits = (relative : List ℕ) (lies : LiesBelow h out
 
 -- ---- a run
 
--- so it is of the visits of a run that was begun, and did not end before its last name, and of each file that was there
--- when its folder was opened
+-- so it is of the visits of a run that was begun, with nothing left over, and did not end before its last name, and of
+-- each file that was there when its folder was opened
 abbrev pub RunsVisit : {I O F W E : Type 0}
     → (world_of : Host I O → (gives : F → List (List ℕ)) → World FileSystem I O F E)
     → (AllSo : Host I O → Tree → (folder : List ℕ) → FolderNumber → List Visit → Type 0) → Writer W → Type 0
 RunsVisit {I} {O} {F} {W} {E} world_of AllSo m =
     (h : Host I O) (gives : F → List (List ℕ)) (run : TreeRun) (start : Tree) (path : List ℕ) (begun : Begun)
     (opened : F) (headed : W) (from : E) (before : FileSystem) (status : ℕ) (left : W) (to : E) (after : FileSystem)
-    → GivesAll h gives start path opened → Ready h run start begun before
+    → GivesAll h gives start path opened → Ready h run start begun before → at_path h start (part_path run) ≡ None
     → (v : VisitsAll (world_of h gives) m run path begun opened headed from before status left to after)
     → v.last.stop ≡ None
     → (has : FolderHasRows (world_of h gives) m run path begun opened headed from before status left to after v)
@@ -204,16 +205,19 @@ NamesItself h = (folder name : List ℕ)
 pub data HasVisited {I O F W E : Type 0} (h : Host I O) (w : World FileSystem I O F E)
     (AllSo : FolderNumber → List Visit → Type 0) (m : Writer W) (run : TreeRun) (path : List ℕ) (start : Tree)
     (manifest : W) (from : E) (status : ℕ) (left : W) (to : E) (after : FileSystem) : Type 0 where
-  refused : (refusal : Refusal) → Refuses w.errors run refusal from status to → left ≡ manifest
+  refused : (refusal : Refusal) (told : E) → TellsLeft w.errors (part_of run) from told
+      → Refuses w.errors run refusal told status to → left ≡ manifest
       → HasVisited h w AllSo m run path start manifest from status left to after
-  no_header : (failure : WriteFailed) → PutsFirstRow m run.options.has_header manifest (Err failure) left
-      → EndsUnwritten w.errors run.options.counts from status to
+  no_header : (failure : WriteFailed) (told : E) → TellsLeft w.errors (part_of run) from told
+      → PutsFirstRow m run.options.has_header manifest (Err failure) left
+      → EndsUnwritten w.errors run.options.counts told status to
       → HasVisited h w AllSo m run path start manifest from status left to after
-  visited : (opened : F) (begun : Begun) (headed : W) (mid : FileSystem)
+  visited : (opened : F) (begun : Begun) (headed : W) (told : E) (mid : FileSystem)
+      → TellsLeft w.errors (part_of run) from told
       → PutsFirstRow m run.options.has_header manifest (Ok _) headed → Ready h run start begun mid
-      → (v : VisitsAll w m run path begun opened headed from mid status left to after)
-      → (v.last.stop ≡ None
-      → (has : FolderHasRows w m run path begun opened headed from mid status left to after v)
+      → (v : VisitsAll w m run path begun opened headed told mid status left to after)
+      → (v.last.stop ≡ None → at_path h start (part_path run) ≡ None
+      → (has : FolderHasRows w m run path begun opened headed told mid status left to after v)
       → AllSo begun.number has.visits)
       → HasVisited h w AllSo m run path start manifest from status left to after
 

@@ -1,4 +1,4 @@
--- No output of a run over a tree is half under its name.
+-- An output of a run over a tree gets its name only when it is complete.
 use Rattle.std.specs.Prelude.{◌≡◌, ◌≢◌, ℕ, List, Some, None}
 use Rattle.dcm_files.specs.declared.folders.Found.{Found}
 use Rattle.dcm_files.specs.declared.folders.FoundKind.TheVariants.{File, Folder}

@@ -40,8 +40,8 @@ pub fn others_stay<I: DeviceIn, O: DeviceOut, W: DeviceOut, E: DeviceOut, F>()
     ensures words { OthersStayByWords F I.DeviceIn O.DeviceOut E.DeviceOut }
 {}
 
-/// No output of a tree is half under its name. After each call of a run over one, whatever calls fail, each file that
-/// was not there before is whole. It has all the bytes that its output took of a job that was done: the one that the
+/// An output of a tree gets its name only when it is complete. After each call of a run, whatever calls fail, each file
+/// that was not there before is whole. It has all the bytes that its output took of a job that was done: the one that the
 /// run's task has for the file of a name below the folder that the run is over, or of a line of its list, done of the
 /// input that was opened at the path of that name. In a folder that is the path of its relative name, of which no part
 /// is empty, `.` or `..`. That file was there at a state that the run had before, links at the end of its path followed

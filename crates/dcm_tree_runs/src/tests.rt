@@ -9,6 +9,7 @@ mod instances;
 mod left_out;
 mod lists;
 mod long;
+mod modes;
 mod moved;
 mod outputs;
 mod parts;
@@ -24,6 +25,11 @@ use std::test::Fail;
 #[test]
 fn outputs_of_files(rt: HostRuntime) -> Result<(), Fail> {
     expect_rows(rt.alloc(), &outputs::OUTPUTS)
+}
+
+#[test]
+fn modes_of_folders(rt: HostRuntime) -> Result<(), Fail> {
+    expect_rows(rt.alloc(), &modes::MODES)
 }
 
 #[test]

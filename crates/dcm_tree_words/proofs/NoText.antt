@@ -24,6 +24,16 @@ one_of w x y P p q h = by (bytes_eq w x) (bytes_eq w y) refl refl h
     by false true e f h = subst P (sym ((bytes_eq-Decides w y).0 f)) q
     by false false e f h = absurd cc
 
+-- one of three
+one_of_three : (w x y z : List ℕ) (P : List ℕ → Type 0) → P x → P y → P z → bytes_eq w x || bytes_eq w y || bytes_eq w z ≡ true → P w
+one_of_three w x y z P p q r h = by (bytes_eq w x) (bytes_eq w y) (bytes_eq w z) refl refl refl h
+  where
+    by : (a b c : Bool) → bytes_eq w x ≡ a → bytes_eq w y ≡ b → bytes_eq w z ≡ c → a || b || c ≡ true → P w
+    by true b c e f g h = subst P (sym ((bytes_eq-Decides w x).0 e)) p
+    by false true c e f g h = subst P (sym ((bytes_eq-Decides w y).0 f)) q
+    by false false true e f g h = subst P (sym ((bytes_eq-Decides w z).0 g)) r
+    by false false false e f g h = absurd cc
+
 -- a first word that asks for a text names no tool, and an only word that does so is none of a tree
 abbrev NoTree : List (List ℕ) → List ℕ → Type 0
 NoTree others w = asks (tree_tool w) others ≡ false
@@ -32,15 +42,15 @@ abbrev OnlyOwn : TreeTool → List ℕ → Type 0
 OnlyOwn t w = asks (Some t) (w ∷ []) ≡ false
 
 help_names_none : (w : List ℕ) (others : List (List ℕ)) → is_help w ≡ true → NoTree others w
-help_names_none w others h = one_of w (codes "help") (codes "--help") (NoTree others) refl refl h
+help_names_none w others h = one_of_three w (codes "help") (codes "--help") (codes "-h") (NoTree others) refl refl refl h
 
 version_names_none : (w : List ℕ) (others : List (List ℕ)) → is_version w ≡ true → NoTree others w
 version_names_none w others h = one_of w (codes "version") (codes "--version") (NoTree others) refl refl h
 
 help_is_own : (t : TreeTool) (w : List ℕ) → is_help w ≡ true → OnlyOwn t w
-help_is_own Convert w h = one_of w (codes "help") (codes "--help") (OnlyOwn Convert) refl refl h
-help_is_own Modify w h = one_of w (codes "help") (codes "--help") (OnlyOwn Modify) refl refl h
-help_is_own Deidentify w h = one_of w (codes "help") (codes "--help") (OnlyOwn Deidentify) refl refl h
+help_is_own Convert w h = one_of_three w (codes "help") (codes "--help") (codes "-h") (OnlyOwn Convert) refl refl refl h
+help_is_own Modify w h = one_of_three w (codes "help") (codes "--help") (codes "-h") (OnlyOwn Modify) refl refl refl h
+help_is_own Deidentify w h = one_of_three w (codes "help") (codes "--help") (codes "-h") (OnlyOwn Deidentify) refl refl refl h
 
 version_is_own : (t : TreeTool) (w : List ℕ) → is_version w ≡ true → OnlyOwn t w
 version_is_own Convert w h = one_of w (codes "version") (codes "--version") (OnlyOwn Convert) refl refl h

@@ -1,8 +1,9 @@
 -- The numbers of parts.
-use Rattle.std.proofs.Common.{◌≡◌, ℕ, ◌+◌, ◌≤◌, ◌^◌, List, length, Some, Bool, true, false, arith, lit<}
+use Rattle.std.proofs.Common.{◌≡◌, ℕ, ◌+◌, ◌≤◌, ◌^◌, List, length, Some, Bool, true, arith, lit<}
 use Rattle.std.specs.Prelude.{nat_le, ◌&&◌}
 use Rattle.std.proofs.lemmas.Bool.Decides.{nat_tests}
 use Rattle.std.proofs.Math.Nat.{pow-le-pow_right}
+use Rattle.dcm_lemmas.proofs.Truth.{and_second}
 use Rattle.dcm_base.specs.Lines.ReadValue.{number_in, decimal_number}
 use Rattle.dcm_base.proofs.DumpsBack.DigitNumbers.{if_some}
 use Rattle.dcm_edits.proofs.Words.IndexNumbers.{number_below}
@@ -11,12 +12,8 @@ use Rattle.dcm_tree_words.specs.Parts.{short_number}
 within_four : (i : ℕ) → i ≤ 4 → 10 ^ i ≤ 10 ^ 4
 within_four i h = pow-le-pow_right {n = 10} (lit< tt) {i = i} {j = 4} h
 
-both_so : (a b : Bool) → a && b ≡ true → b ≡ true
-both_so true b p = p
-both_so false b p = cc
-
 few_digits : (a : Bool) (n : ℕ) → a && nat_le n 4 ≡ true → n ≤ 4
-few_digits a n p = let l = both_so a (nat_le n 4) p in grind (arith, nat_tests)
+few_digits a n p = let l = and_second a (nat_le n 4) p in grind (arith, nat_tests)
 
 four_digits : (w : List ℕ) (n : ℕ) → length w ≤ 4 → number_in 10 0 w ≡ Some n → n ≤ 9999
 four_digits w n h p =

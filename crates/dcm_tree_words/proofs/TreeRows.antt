@@ -19,7 +19,7 @@ unfolding meant two_paths meant_tree asks_tree words_of_one elements entries key
 all = 0
 
 abbrev planned : (input output : List ℕ) → (key : Option (List ℕ)) → Job → Plan
-planned input output key job = record { input = input; output = output; key = key; days_by_key = false; job = job }
+planned input output key job = record { input = input; output = output; key = key; overwrites = false; days_by_key = false; job = job }
 
 -- what is said of a run without a word
 abbrev usual : Options
@@ -314,3 +314,25 @@ signed = refl
 empty : part_of (codes "") ≡ None
 unfolding all
 empty = refl
+
+-- ---- an output that is there is overwritten by no run over a tree
+
+over_a_tree : meant_tree (codes "dcmconv" ∷ codes "+ow" ∷ codes "+r" ∷ codes "in" ∷ codes "out" ∷ []) ≡ Err (Whole OptionsApart)
+unfolding all
+over_a_tree = refl
+
+edits_over_a_tree : meant_tree (codes "dcmodify" ∷ codes "+r" ∷ codes "-ep" ∷ codes "+ow" ∷ codes "in" ∷ codes "out" ∷ []) ≡ Err (Whole OptionsApart)
+unfolding all
+edits_over_a_tree = refl
+
+over_a_tree_of_one_path : meant_tree (codes "dcmdeid" ∷ codes "+r" ∷ codes "+ow" ∷ codes "in" ∷ codes "in" ∷ []) ≡ Err (Whole OptionsApart)
+unfolding all
+over_a_tree_of_one_path = refl
+
+over_a_list_without_name : meant_tree (codes "dcmconv" ∷ codes "+ow" ∷ codes "+r" ∷ codes "@" ∷ codes "out" ∷ []) ≡ Err (Whole WrongPaths)
+unfolding all
+over_a_list_without_name = refl
+
+over_alone : asks_tree (codes "dcmconv" ∷ codes "+ow" ∷ codes "in" ∷ codes "out" ∷ []) ≡ false
+unfolding all
+over_alone = refl

@@ -2,7 +2,7 @@
 use Rattle.std.specs.Prelude.{◌≡◌, ℕ, Option, Some, Result, Ok, Err}
 use Rattle.std.specs.Option.{option_map}
 use Rattle.dcm_words.specs.declared.usage.Usage.{Usage}
-use Rattle.dcm_words.specs.declared.usage.Usage.TheVariants.{AtWord, Whole, InEdit, Memory}
+use Rattle.dcm_words.specs.declared.usage.Usage.TheVariants.{AtWord, Whole, InEdit, InElement, TooManyElements, Memory}
 use Rattle.dcm_words.specs.Plans.{planned}
 use Rattle.dcm_words.specs.PlacesAs.{two_as}
 use Rattle.dcm_tree_words.specs.declared.part.Part.{Part}
@@ -64,3 +64,5 @@ GivesTreeUnlessMemory (Err Memory) meant = Unit {0}
 GivesTreeUnlessMemory (Err (AtWord fault n)) meant = meant ≡ Err (AtWord fault n)
 GivesTreeUnlessMemory (Err (Whole fault)) meant = meant ≡ Err (Whole fault)
 GivesTreeUnlessMemory (Err (InEdit refusal n)) meant = meant ≡ Err (InEdit refusal n)
+GivesTreeUnlessMemory (Err (InElement refusal n)) meant = meant ≡ Err (InElement refusal n)
+GivesTreeUnlessMemory (Err TooManyElements) meant = meant ≡ Err TooManyElements

@@ -104,11 +104,13 @@ abbrev pub path_fault : (over_tree : Bool) → Option TwoPaths → Option Usage
 path_fault over_tree None = Some (Whole WrongPaths)
 path_fault over_tree (Some p) = if over_tree && bytes_eq p.input (codes "@") then Some (Whole WrongPaths) else None
 
--- a word of a tree without `+r`, or a standard stream with it
+-- a word of a tree without `+r`; or with it a standard stream, or the word by which an output is overwritten
 abbrev pub option_fault : (over_tree : Bool) → Option TwoPaths → Option Usage
 option_fault over_tree None = None
 option_fault over_tree (Some p) =
-    if not over_tree || bytes_eq p.input standard || bytes_eq p.output standard then Some (Whole OptionsApart) else None
+    if not over_tree || bytes_eq p.input standard || bytes_eq p.output standard || p.overwrites
+    then Some (Whole OptionsApart)
+    else None
 
 abbrev pub edit_fault : Option Usage → Option Usage
 edit_fault None = None

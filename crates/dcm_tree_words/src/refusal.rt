@@ -56,12 +56,12 @@ fn path_fault(over_tree: bool, paths: Option<TwoPaths>) -> Option<Usage>
     }
 }
 
-/// That a word of a tree is there without `+r`, or a standard stream with it.
+/// That a word of a tree is there without `+r`; or with it a standard stream, or `+ow`.
 fn option_fault(over_tree: bool, paths: Option<TwoPaths>) -> Option<Usage>
     ensures { result ≡ spec.option_fault over_tree (option_map two_as paths.entry) }
 {
     let paths = paths?;
-    if !over_tree || paths.input == STANDARD || paths.output == STANDARD {
+    if !over_tree || paths.input == STANDARD || paths.output == STANDARD || paths.overwrites {
         return Some(Usage::Whole(WordFault::OptionsApart));
     }
     None

@@ -1,7 +1,15 @@
 -- What is done with a file by another form of its job, of its path or of its fate.
-use Rattle.std.proofs.Common.{◌≡◌, refl, subst, sym, ℕ, List, Option, Bool, Result}
+use Rattle.std.proofs.Common.{◌≡◌, refl, subst, sym, ℕ, List, [], ◌∷◌, Option, None, Bool, Result}
+use Rattle.std.specs.declared.io.Error.{Error}
+use Rattle.dcm_devices.specs.Writing.{Writer}
+use Rattle.dcm_files.specs.declared.opened.FileKind.{FileKind}
+use Rattle.dcm_files.specs.Devices.{MayDo}
+use Rattle.dcm_cli.specs.Calls.{FinishesOn, Reports}
+use Rattle.dcm_cli.specs.declared.ending.Ended.{Ended}
 use Rattle.dcm_cli.specs.First.{ReadsFirst}
 use Rattle.dcm_cli.specs.InputCalls.{Reader}
+use Rattle.dcm_cli.specs.declared.ending.Ending.{Ending}
+use Rattle.dcm_cli.specs.declared.ending.Remarks.{Remarks}
 use Rattle.dcm_cli.specs.declared.first.FirstEnd.{FirstEnd}
 use Rattle.dcm_instance.specs.ReadInstance.{ReadsInstance}
 use Rattle.dcm_instance.specs.Same.{Compares}
@@ -14,7 +22,9 @@ use Rattle.dcm_base.specs.declared.syntax.Syntax.{Syntax}
 use Rattle.dcm_words.specs.declared.job.Texts.{Texts}
 use Rattle.dcm_words.specs.declared.job.Texts.TheVariants.{Bytes, Characters}
 use Rattle.dcm_words.specs.Plans.{job_of}
-use Rattle.dcm_words.specs.Words.{Job, dump_as}
+use Rattle.dcm_base.specs.declared.tag.Tag.{Tag}
+use Rattle.dcm_words.specs.Tags.{tags_of}
+use Rattle.dcm_words.specs.Words.{Job, dump_as, dump_of}
 use Rattle.dcm_words.specs.declared.job.Deidentify.{Deidentify}
 use Rattle.dcm_words.specs.declared.job.Job.{Job as AnyJob}
 use Rattle.dcm_words.specs.declared.job.Job.TheVariants as jobs
@@ -23,6 +33,8 @@ use Rattle.dcm_trees.specs.declared.file.Done.{Done}
 use Rattle.dcm_trees.specs.declared.progress.Stop.{Stop as RunStop}
 use Rattle.dcm_trees.specs.File.{DoesReady}
 use Rattle.dcm_trees.specs.Instance.{DoesByInstance, PlacesPart, NamesPart}
+use Rattle.dcm_trees.specs.Lines.{ended_lines}
+use Rattle.dcm_trees.specs.Part.{FillsOn, after_closing}
 use Rattle.dcm_trees.specs.Manner.{Manner}
 use Rattle.dcm_tree_words.specs.Trees.{Tree}
 use Rattle.dcm_trees.specs.Program.{Deidentifies, RunsAs, RunsTask}
@@ -49,21 +61,27 @@ pub names_with : {S I O F E : Type 0} {w : World S I O F E} {m : Manner} {name :
 names_with {S} {I} {O} {F} {E} {w} {m} {name} {from} {before} {done} {to} {after} fate other is names =
     subst (λ (f : Fate). NamesPart w m name f from before done to after) is names
 
-pub task_by : {S I O F E : Type 0} {w : World S I O F E} {t : Tree} {from : E} {before : S} {status : ℕ} {to : E} {after : S} (task other : Task)
-    → task ≡ other → RunsTask w t task from before status to after → RunsTask w t other from before status to after
-task_by {S} {I} {O} {F} {E} {w} {t} {from} {before} {status} {to} {after} task other is runs =
-    subst (λ (k : Task). RunsTask w t k from before status to after) is runs
+pub task_by : {S I O F E : Type 0} {w : World S I O F E} {t : Tree} {key : Option FileKind} {from : E} {before : S} {status : ℕ} {to : E} {after : S} (task other : Task)
+    → task ≡ other → RunsTask w t task key from before status to after → RunsTask w t other key from before status to after
+task_by {S} {I} {O} {F} {E} {w} {t} {key} {from} {before} {status} {to} {after} task other is runs =
+    subst (λ (k : Task). RunsTask w t k key from before status to after) is runs
 
 -- what is done where the job is a dump
 dumped_run : {S I O F E : Type 0} {w : World S I O F E} {t : Tree} {from : E} {before : S} {status : ℕ} {to : E} {after : S} (texts : Texts) (d : Dictionary) (mode : Mode) (bare : Option Syntax)
-    → RunsTask w t (same t.plan.job) from before status to after → RunsAs w t (dump_as texts d mode bare) from before status to after
+    → RunsTask w t (same t.plan.job) None from before status to after → RunsAs w t (dump_as texts d mode bare) from before status to after
 dumped_run Bytes d mode bare runs = runs
 dumped_run Characters d mode bare runs = runs
 
+-- the same of elements that are named
+named_run : {S I O F E : Type 0} {w : World S I O F E} {t : Tree} {from : E} {before : S} {status : ℕ} {to : E} {after : S} (tags : List Tag) (ways : Bool) (texts : Texts) (d : Dictionary) (mode : Mode) (bare : Option Syntax)
+    → RunsTask w t (same t.plan.job) None from before status to after → RunsAs w t (dump_of (record { tags = tags; ways = ways }) texts d mode bare) from before status to after
+named_run [] ways texts d mode bare runs = dumped_run texts d mode bare runs
+named_run (tag ∷ tags) ways texts d mode bare runs = runs
+
 -- what is done where the job is not the taking out of identity, and where it is
 pub other_run : {A S I O F E : Type 0} {w : World S I O F E} {t : Tree} {from : E} {before : S} {status : ℕ} {to : E} {after : S} (j : AnyJob A) → ((d : Deidentify) → j ≡ jobs.Deidentify d → ⊥)
-    → RunsTask w t (same t.plan.job) from before status to after → RunsAs w t (job_of j) from before status to after
-other_run (jobs.Dump d) other runs = dumped_run d.texts d.dictionary d.mode d.bare runs
+    → RunsTask w t (same t.plan.job) None from before status to after → RunsAs w t (job_of j) from before status to after
+other_run (jobs.Dump d) other runs = named_run (tags_of d.named.tags) d.named.ways d.texts d.dictionary d.mode d.bare runs
 other_run (jobs.Convert d) other runs = runs
 other_run (jobs.Build d) other runs = runs
 other_run (jobs.Modify d) other runs = runs
@@ -88,3 +106,31 @@ pub compares_of : {A B : Type 0} {a : Reader A} {b : Reader B} {first_left : A} 
     → first ≡ one → second ≡ other → Compares a b first first_left second second_left same → Compares a b one first_left other second_left same
 compares_of {A} {B} {a} {b} {first_left} {second_left} {same} first one second other is are compares =
     subst (λ (x : A). Compares a b x first_left other second_left same) is (subst (λ (y : B). Compares a b first first_left y second_left same) are compares)
+
+-- what was told of what is remarked of a file
+pub told_as : {E : Type 0} (e : Writer E) (name : List ℕ) (ending : Ending) (one other : Remarks) (from to : E) → one ≡ other → Reports e from to (ended_lines name ending other) → Reports e from to (ended_lines name ending one)
+told_as e name ending one other from to is h = subst (λ (r : Remarks). Reports e from to (ended_lines name ending r)) (sym is) h
+
+-- a job was done from a file into the part
+pub fills_of : {S I O : Type 0} {may : MayDo S I O} {r : Reader I} {w : Writer O} {job : Job} {input one back left : I} {output other device written : O} {before after : S} {ended : Ended} {ending : Ending} (closed : S) (closing : Result (Unit {0}) Error)
+    → one ≡ input → other ≡ output → FinishesOn r w job one left other written ended → device ≡ written → may.closes before device closing closed → back ≡ left → may.releases closed back after → ending ≡ after_closing ended.ending closing
+    → FillsOn may r w job input output before (record { remarks = ended.remarks; ending = ending }) after
+fills_of {S} {I} {O} {may} {r} {w} {job} {input} {one} {back} {left} {output} {other} {device} {written} {before} {after} {ended} {ending} closed closing first second done gives closes returns releases is =
+    let on : FinishesOn r w job input left output written ended =
+    subst (λ (x : I). FinishesOn r w job x left output written ended) first (subst (λ (y : O). FinishesOn r w job one left y written ended) second done) in
+    record {
+      fills = record {
+        left = left;
+        written = written;
+        closed = closed;
+        ended = ended.ending;
+        closing = closing;
+        finished = on.finishes;
+        remarks = ended.remarks;
+        remarked = on.remarked;
+        closes = subst (λ (x : O). may.closes before x closing closed) gives closes;
+        releases = subst (λ (x : I). may.releases closed x after) returns releases;
+        ending_is = is;
+      };
+      remarks_are = refl;
+    }

@@ -1,11 +1,14 @@
 -- A run by other forms of its part's name and of its list.
 use Rattle.std.proofs.Common.{Global, ◌≡◌, ◌∙◌, sym, subst, ℕ, List, Bool, Result, Err}
 use Rattle.dcm_devices.specs.Writing.{Writer}
+use Rattle.dcm_files.specs.Devices.{MayDo}
 use Rattle.dcm_files.specs.Folders.{FoldersDo}
+use Rattle.dcm_files.specs.declared.opened.FileKind.{FileKind}
 use Rattle.dcm_trees.specs.declared.beginning.Begun.{Begun}
 use Rattle.dcm_trees.specs.declared.beginning.Refusal.{Refusal}
+use Rattle.dcm_trees.specs.declared.beginning.Spared.{Spared}
 use Rattle.dcm_trees.specs.declared.run.TreeRun.{TreeRun}
-use Rattle.dcm_trees.specs.Beginning.{Begins}
+use Rattle.dcm_trees.specs.Beginning.{ClearsWay, Begins}
 use Rattle.dcm_walk.specs.declared.list.ListEnd.{ListEnd}
 use Rattle.dcm_walk.specs.declared.visitor.Stopped.{Stopped}
 use Rattle.dcm_trees.specs.declared.progress.Shared.{Shared}
@@ -13,7 +16,7 @@ use Rattle.dcm_trees.specs.declared.progress.Work.{Work}
 use Rattle.dcm_trees.specs.Run.{Shares, EndsRun}
 use Rattle.dcm_trees.specs.Work.{Progress, progress, nothing_done}
 use Rattle.dcm_words.specs.declared.usage.Usage.{Usage}
-use Rattle.dcm_words.specs.declared.usage.Usage.TheVariants.{AtWord, Whole, InEdit, Memory}
+use Rattle.dcm_words.specs.declared.usage.Usage.TheVariants.{AtWord, Whole, InEdit, InElement, TooManyElements, Memory}
 use Rattle.dcm_tree_words.specs.Plans.{GivesTreeUnlessMemory}
 use Rattle.dcm_tree_words.specs.Trees.{Source, meant_tree}
 use Rattle.dcm_cli.specs.Calls.{Reports}
@@ -22,15 +25,20 @@ use Rattle.dcm_trees.specs.Program.{ObeysTree, refused, no_memory}
 use Rattle.dcm_trees.specs.Tree.{DoesNames, DoesTree, BeginsWork}
 use Rattle.dcm_trees.specs.World.{World}
 
-pub begins_as : {S O F : Type 0} {d : FoldersDo S O F} {input : List ℕ} {is_list : Bool} {output : List ℕ} {continues : Bool} {before : S} {r : Result Begun Refusal} {after : S} {part name other : List ℕ}
-    → part ≡ name → name ≡ other → Begins d input is_list output part continues before r after → Begins d input is_list output other continues before r after
-begins_as {S} {O} {F} {d} {input} {is_list} {output} {continues} {before} {r} {after} {part} {name} {other} is named begins =
-    subst (λ (p : List ℕ). Begins d input is_list output p continues before r after) (is ∙ named) begins
+pub clears_as : {S I O F E : Type 0} {may : MayDo S I O} {d : FoldersDo S O F} {e : Writer E} {path other name : List ℕ} {spared : Spared} {from : E} {before : S} {r : Result (Unit {0}) Refusal} {to : E} {after : S}
+    → path ≡ other → ClearsWay may d e path name spared from before r to after → ClearsWay may d e other name spared from before r to after
+clears_as {S} {I} {O} {F} {E} {may} {d} {e} {path} {other} {name} {spared} {from} {before} {r} {to} {after} is clears =
+    subst (λ (p : List ℕ). ClearsWay may d e p name spared from before r to after) is clears
 
-pub names_of : {S I O F W E : Type 0} {w : World S I O F E} {m : Writer W} {run : TreeRun} {list : List ℕ} {input device : I} {manifest : W} {from : E} {before : S} {status : ℕ} {left : W} {to : E} {after : S} {read : I}
-    → input ≡ device → DoesNames w m run list input manifest from before status left to after read → DoesNames w m run list device manifest from before status left to after read
-names_of {S} {I} {O} {F} {W} {E} {w} {m} {run} {list} {input} {device} {manifest} {from} {before} {status} {left} {to} {after} {read} is does =
-    subst (λ (i : I). DoesNames w m run list i manifest from before status left to after read) is does
+pub begins_as : {S I O F E : Type 0} {may : MayDo S I O} {d : FoldersDo S O F} {e : Writer E} {input : List ℕ} {is_list : Bool} {output : List ℕ} {continues : Bool} {from : E} {before : S} {r : Result Begun Refusal} {to : E} {after : S} {part name other : List ℕ} {spared also : Spared}
+    → part ≡ name → name ≡ other → spared ≡ also → Begins may d e input is_list output part continues spared from before r to after → Begins may d e input is_list output other continues also from before r to after
+begins_as {S} {I} {O} {F} {E} {may} {d} {e} {input} {is_list} {output} {continues} {from} {before} {r} {to} {after} {part} {name} {other} {spared} {also} is named spares begins =
+    subst (λ (x : Spared). Begins may d e input is_list output other continues x from before r to after) spares (subst (λ (p : List ℕ). Begins may d e input is_list output p continues spared from before r to after) (is ∙ named) begins)
+
+pub names_of : {S I O F W E : Type 0} {w : World S I O F E} {m : Writer W} {run : TreeRun} {list : List ℕ} {kind : FileKind} {input device : I} {manifest : W} {from : E} {before : S} {status : ℕ} {left : W} {to : E} {after : S} {read : I}
+    → input ≡ device → DoesNames w m run list kind input manifest from before status left to after read → DoesNames w m run list kind device manifest from before status left to after read
+names_of {S} {I} {O} {F} {W} {E} {w} {m} {run} {list} {kind} {input} {device} {manifest} {from} {before} {status} {left} {to} {after} {read} is does =
+    subst (λ (i : I). DoesNames w m run list kind i manifest from before status left to after read) is does
 
 pub begins_work : {W : Type 0} {run : TreeRun} {begun : Begun} {manifest : W} {start : Work W} {shared : Shared} {part : List ℕ}
     → progress start ≡ nothing_done manifest → start.shared ≡ shared → part ≡ begun.part.items → Shares run part shared → BeginsWork run begun manifest start
@@ -59,3 +67,5 @@ refused_of Memory meant told is same = no_memory told is same
 refused_of (AtWord fault n) meant told is same = refused (AtWord fault n) meant told is same
 refused_of (Whole fault) meant told is same = refused (Whole fault) meant told is same
 refused_of (InEdit fault n) meant told is same = refused (InEdit fault n) meant told is same
+refused_of (InElement fault n) meant told is same = refused (InElement fault n) meant told is same
+refused_of TooManyElements meant told is same = refused TooManyElements meant told is same

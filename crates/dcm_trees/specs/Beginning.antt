@@ -6,16 +6,26 @@ use Rattle.std.specs.Str.{IsUtf8}
 use Rattle.std.specs.declared.io.Error.{Error}
 use Rattle.std.specs.declared.io.ErrorKind.TheVariants.{AlreadyExists}
 use Rattle.arrayvec.specs.ArrayVec.{ArrayVec}
+use Rattle.dcm_devices.specs.Writing.{Writer}
+use Rattle.dcm_files.specs.Devices.{MayDo}
 use Rattle.dcm_files.specs.Folders.{FoldersDo}
 use Rattle.dcm_files.specs.declared.folders.Found.{Found}
-use Rattle.dcm_files.specs.declared.folders.FoundKind.TheVariants.{Folder}
+use Rattle.dcm_files.specs.declared.folders.FoundKind.{FoundKind}
+use Rattle.dcm_files.specs.declared.folders.FoundKind.TheVariants.{File, Folder}
 use Rattle.dcm_files.specs.declared.folders.Links.TheVariants.{Kept, Followed}
+use Rattle.dcm_files.specs.declared.opened.FileKind.{FileKind}
+use Rattle.dcm_files.specs.declared.opened.FileKind.TheVariants.{Regular}
+use Rattle.dcm_names.specs.NamedLines.{named_line}
 use Rattle.dcm_walk.specs.declared.folder.FolderNumber.{FolderNumber}
 use Rattle.dcm_walk.specs.Names.{PATH_LIMIT, is_slash}
+use Rattle.dcm_cli.specs.Calls.{Reports}
 use Rattle.dcm_trees.specs.declared.beginning.Begun.{Begun}
 use Rattle.dcm_trees.specs.declared.beginning.Refusal.{Refusal}
-use Rattle.dcm_trees.specs.declared.beginning.Refusal.TheVariants.{Output, Same, OutputWithin, InputWithin, PartThere, NotEmpty}
+use Rattle.dcm_trees.specs.declared.beginning.Refusal.TheVariants.{Output, Same, OutputWithin, InputWithin, AtWork, PartThere, NotEmpty}
+use Rattle.dcm_trees.specs.declared.beginning.Spared.{Spared}
 use Rattle.dcm_trees.specs.declared.beginning.WayUp.{WayUp}
+use Rattle.dcm_trees.specs.declared.modes.NoMode.{NoMode}
+use Rattle.dcm_trees.specs.Modes.{Modes, FindsMode}
 use Rattle.dcm_trees.specs.Place.{path_in}
 
 -- ---- looking, links followed
@@ -122,15 +132,15 @@ pub data IsThere {S O F : Type 0} (d : FoldersDo S O F) (output : List ℕ) (bef
   not_seen : (refusal : Refusal) → Looks d output before (Err refusal) after → r ≡ Err refusal
       → IsThere d output before r after
 
--- a folder is made, or something is there
-pub data MakesFolder {S O F : Type 0} (d : FoldersDo S O F) (path : List ℕ) (before : S) (r : Result (Unit {0}) Refusal)
-    (after : S) : Type 0 where
-  no_text : ¬ (IsUtf8 path) → r ≡ Err Output → after ≡ before → MakesFolder d path before r after
-  made : IsUtf8 path → d.makes_folder before path (Ok _) after → r ≡ Ok _ → MakesFolder d path before r after
-  was_there : (e : Error) → IsUtf8 path → d.makes_folder before path (Err e) after → error_kind e ≡ AlreadyExists
-      → r ≡ Ok _ → MakesFolder d path before r after
-  not_made : (e : Error) → IsUtf8 path → d.makes_folder before path (Err e) after → error_kind e ≢ AlreadyExists
-      → r ≡ Err Output → MakesFolder d path before r after
+-- a folder is made with bits of a mode, or something is there
+pub data MakesFolder {S O F : Type 0} (d : FoldersDo S O F) (path : List ℕ) (mode : ℕ) (before : S)
+    (r : Result (Unit {0}) Refusal) (after : S) : Type 0 where
+  no_text : ¬ (IsUtf8 path) → r ≡ Err Output → after ≡ before → MakesFolder d path mode before r after
+  made : IsUtf8 path → d.makes_folder before path mode (Ok _) after → r ≡ Ok _ → MakesFolder d path mode before r after
+  was_there : (e : Error) → IsUtf8 path → d.makes_folder before path mode (Err e) after → error_kind e ≡ AlreadyExists
+      → r ≡ Ok _ → MakesFolder d path mode before r after
+  not_made : (e : Error) → IsUtf8 path → d.makes_folder before path mode (Err e) after → error_kind e ≢ AlreadyExists
+      → r ≡ Err Output → MakesFolder d path mode before r after
 
 -- the number of a folder that is there
 pub data NumbersFolder {S O F : Type 0} (d : FoldersDo S O F) (path : List ℕ) (before : S)
@@ -143,13 +153,23 @@ pub data NumbersFolder {S O F : Type 0} (d : FoldersDo S O F) (path : List ℕ) 
   not_seen : (refusal : Refusal) → Looks d path before (Err refusal) after → r ≡ Err refusal
       → NumbersFolder d path before r after
 
--- it is made; one that was made meanwhile does
-pub data MakesOutput {S O F : Type 0} (d : FoldersDo S O F) (output : List ℕ) (before : S)
+-- it is made with the mode that is found for it; one that was made meanwhile does
+pub data MakesOutput {S O F : Type 0} (d : FoldersDo S O F) (modes : Modes) (output : List ℕ) (before : S)
     (r : Result FolderNumber Refusal) (after : S) : Type 0 where
-  not_made : (refusal : Refusal) → MakesFolder d output before (Err refusal) after → r ≡ Err refusal
-      → MakesOutput d output before r after
-  made : (mid : S) → MakesFolder d output before (Ok _) mid → NumbersFolder d output mid r after
-      → MakesOutput d output before r after
+  no_mode : (n : NoMode) → FindsMode d modes [] before (Err n) after → r ≡ Err Output
+      → MakesOutput d modes output before r after
+  not_made : (mode : ℕ) (refusal : Refusal) (seen : S) → FindsMode d modes [] before (Ok mode) seen
+      → MakesFolder d output mode seen (Err refusal) after → r ≡ Err refusal → MakesOutput d modes output before r after
+  made : (mode : ℕ) (seen mid : S) → FindsMode d modes [] before (Ok mode) seen
+      → MakesFolder d output mode seen (Ok _) mid → NumbersFolder d output mid r after
+      → MakesOutput d modes output before r after
+
+-- the folder that is read tells it, but not where that is the current one, for names of a list
+abbrev pub folder_read : (input : List ℕ) → (is_list : Bool) → Option (List ℕ)
+folder_read input is_list = if is_list then None else Some input
+
+abbrev pub output_modes : (input : List ℕ) → (is_list : Bool) → Modes
+output_modes input is_list = record { folder = folder_read input is_list; by_name = false }
 
 -- it is within the folder that is read; names of a list may lie around it
 abbrev pub is_within : (is_list : Bool) → WayUp → Bool
@@ -195,7 +215,8 @@ pub data MakesApart {S O F : Type 0} (d : FoldersDo S O F) (input : List ℕ) (i
       → r ≡ Err OutputWithin → MakesApart d input is_list output before r after
   made : (read : FolderNumber) (way : WayUp) (mid climbed : S) → Numbers d input before (Ok read) mid
       → Climbs d (parent_of output) read mid (Ok way) climbed → is_within is_list way ≡ false
-      → MakesOutput d output climbed r after → MakesApart d input is_list output before r after
+      → MakesOutput d (output_modes input is_list) output climbed r after
+      → MakesApart d input is_list output before r after
 
 pub data HasOutput {S O F : Type 0} (d : FoldersDo S O F) (input : List ℕ) (is_list : Bool) (output : List ℕ)
     (before : S) (r : Result FolderNumber Refusal) (after : S) : Type 0 where
@@ -208,15 +229,69 @@ pub data HasOutput {S O F : Type 0} (d : FoldersDo S O F) (input : List ℕ) (is
 
 -- ---- what is in it
 
--- no part is there that this run would write
-pub data ChecksPart {S O F : Type 0} (d : FoldersDo S O F) (part : List ℕ) (before : S)
-    (r : Result (Unit {0}) Refusal) (after : S) : Type 0 where
-  no_text : ¬ (IsUtf8 part) → r ≡ Err Output → after ≡ before → ChecksPart d part before r after
-  nothing : IsUtf8 part → d.finds before part Kept (Ok None) after → r ≡ Ok _ → ChecksPart d part before r after
-  is_there : (found : Found) → IsUtf8 part → d.finds before part Kept (Ok (Some found)) after → r ≡ Err PartThere
-      → ChecksPart d part before r after
+-- it is the file that was opened so
+abbrev pub is_one : Option FileKind → Found → Bool
+is_one (Some (Regular device number size)) found = device == found.device && number == found.number
+is_one _ found = false
+
+-- it is read beside the inputs: the key, or the list
+abbrev pub is_spared : Spared → Found → Bool
+is_spared spared found = is_one spared.key found || is_one spared.list found
+
+abbrev pub is_file : FoundKind → Bool
+is_file File = true
+is_file _ = false
+
+-- a run may have left it over, where it is at the path of the part
+abbrev pub may_be_left : Spared → Found → Bool
+may_be_left spared found = is_file found.kind && not (is_spared spared found)
+
+-- a file that this run has locked is removed
+pub data RemovesLocked {S I O : Type 0} (may : MayDo S I O) (part : List ℕ) (before : S) (r : Result Bool Refusal)
+    (after : S) : Type 0 where
+  removed : may.removes before part (Ok _) after → r ≡ Ok true → RemovesLocked may part before r after
+  not_removed : (e : Error) → may.removes before part (Err e) after → r ≡ Err PartThere
+      → RemovesLocked may part before r after
+
+-- a file is locked, and removed; or another run has locked it, or it cannot be locked
+pub data RemovesLeft {S I O : Type 0} (may : MayDo S I O) (part : List ℕ) (before : S) (r : Result Bool Refusal)
+    (after : S) : Type 0 where
+  locked : (mid : S) → may.seizes before part (Ok true) mid → RemovesLocked may part mid r after
+      → RemovesLeft may part before r after
+  at_work : may.seizes before part (Ok false) after → r ≡ Err AtWork → RemovesLeft may part before r after
+  not_locked : (e : Error) → may.seizes before part (Err e) after → r ≡ Err PartThere
+      → RemovesLeft may part before r after
+
+-- what is at the path of the part may be left over, or not
+pub data ClearsFound {S I O : Type 0} (may : MayDo S I O) (part : List ℕ) (spared : Spared) (found : Found) (before : S)
+    (r : Result Bool Refusal) (after : S) : Type 0 where
+  may_be : may_be_left spared found ≡ true → RemovesLeft may part before r after
+      → ClearsFound may part spared found before r after
+  is_other : may_be_left spared found ≡ false → r ≡ Err PartThere → after ≡ before
+      → ClearsFound may part spared found before r after
+
+-- nothing is at the path of the part that this run would write, or what is there is left over, and removed
+pub data ChecksPart {S I O F : Type 0} (may : MayDo S I O) (d : FoldersDo S O F) (part : List ℕ) (spared : Spared)
+    (before : S) (r : Result Bool Refusal) (after : S) : Type 0 where
+  no_text : ¬ (IsUtf8 part) → r ≡ Err Output → after ≡ before → ChecksPart may d part spared before r after
+  nothing : IsUtf8 part → d.finds before part Kept (Ok None) after → r ≡ Ok false
+      → ChecksPart may d part spared before r after
+  is_there : (found : Found) (looked : S) → IsUtf8 part → d.finds before part Kept (Ok (Some found)) looked
+      → ClearsFound may part spared found looked r after → ChecksPart may d part spared before r after
   not_seen : (e : Error) → IsUtf8 part → d.finds before part Kept (Err e) after → r ≡ Err Output
-      → ChecksPart d part before r after
+      → ChecksPart may d part spared before r after
+
+abbrev pub left_line : (name : List ℕ) → (was_left : Bool) → List ℕ
+left_line name was_left = if was_left then named_line name (codes "left over, and removed") else []
+
+-- that is told by the name of the part
+pub data ClearsWay {S I O F E : Type 0} (may : MayDo S I O) (d : FoldersDo S O F) (e : Writer E) (path name : List ℕ)
+    (spared : Spared) (from : E) (before : S) (r : Result (Unit {0}) Refusal) (to : E) (after : S) : Type 0 where
+  not_clear : (refusal : Refusal) → ChecksPart may d path spared before (Err refusal) after → to ≡ from
+      → r ≡ Err refusal → ClearsWay may d e path name spared from before r to after
+  clear : (was_left : Bool) → ChecksPart may d path spared before (Ok was_left) after
+      → Reports e from to (left_line name was_left) → r ≡ Ok _
+      → ClearsWay may d e path name spared from before r to after
 
 -- no name is in it
 pub data ChecksEmpty {S O F : Type 0} (d : FoldersDo S O F) (output : List ℕ) (before : S)
@@ -254,22 +329,25 @@ pub data IsPart (output part : List ℕ) (r : Result (ArrayVec ℕ) Refusal) : T
   too_long : path_in output part ≡ None → r ≡ Err Output → IsPart output part r
 
 -- all of it, one after the other
-pub data Begins {S O F : Type 0} (d : FoldersDo S O F) (input : List ℕ) (is_list : Bool) (output part : List ℕ)
-    (continues : Bool) (before : S) (r : Result Begun Refusal) (after : S) : Type 0 where
+pub data Begins {S I O F E : Type 0} (may : MayDo S I O) (d : FoldersDo S O F) (e : Writer E) (input : List ℕ)
+    (is_list : Bool) (output part : List ℕ) (continues : Bool) (spared : Spared) (from : E) (before : S)
+    (r : Result Begun Refusal) (to : E) (after : S) : Type 0 where
   no_output : (refusal : Refusal) → HasOutput d input is_list output before (Err refusal) after → r ≡ Err refusal
-      → Begins d input is_list output part continues before r after
+      → to ≡ from → Begins may d e input is_list output part continues spared from before r to after
   no_part : (number : FolderNumber) (refusal : Refusal) → HasOutput d input is_list output before (Ok number) after
-      → IsPart output part (Err refusal) → r ≡ Err refusal
-      → Begins d input is_list output part continues before r after
+      → IsPart output part (Err refusal) → r ≡ Err refusal → to ≡ from
+      → Begins may d e input is_list output part continues spared from before r to after
   has_part : (number : FolderNumber) (path : ArrayVec ℕ) (refusal : Refusal) (mid : S)
       → HasOutput d input is_list output before (Ok number) mid → IsPart output part (Ok path)
-      → ChecksPart d path.items mid (Err refusal) after → r ≡ Err refusal
-      → Begins d input is_list output part continues before r after
+      → ClearsWay may d e path.items part spared from mid (Err refusal) to after → r ≡ Err refusal
+      → Begins may d e input is_list output part continues spared from before r to after
   in_use : (number : FolderNumber) (path : ArrayVec ℕ) (refusal : Refusal) (mid checked : S)
       → HasOutput d input is_list output before (Ok number) mid → IsPart output part (Ok path)
-      → ChecksPart d path.items mid (Ok _) checked → ChecksUse d output continues checked (Err refusal) after
-      → r ≡ Err refusal → Begins d input is_list output part continues before r after
+      → ClearsWay may d e path.items part spared from mid (Ok _) to checked
+      → ChecksUse d output continues checked (Err refusal) after → r ≡ Err refusal
+      → Begins may d e input is_list output part continues spared from before r to after
   begun : (number : FolderNumber) (path : ArrayVec ℕ) (mid checked : S)
       → HasOutput d input is_list output before (Ok number) mid → IsPart output part (Ok path)
-      → ChecksPart d path.items mid (Ok _) checked → ChecksUse d output continues checked (Ok _) after
-      → r ≡ Ok (record { number = number; part = path }) → Begins d input is_list output part continues before r after
+      → ClearsWay may d e path.items part spared from mid (Ok _) to checked
+      → ChecksUse d output continues checked (Ok _) after → r ≡ Ok (record { number = number; part = path })
+      → Begins may d e input is_list output part continues spared from before r to after

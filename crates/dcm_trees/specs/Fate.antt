@@ -11,7 +11,7 @@ abbrev pub word : Fate → List ℕ
 word fates.Written = codes "written"
 word fates.Unplaced = codes "unplaced"
 word fates.There = codes "there"
-word fates.Occupied = codes "there"
+word fates.Taken = codes "taken"
 word fates.LeftOut = codes "left-out"
 word fates.MediaIndex = codes "left-out"
 word fates.Unread = codes "unread"
@@ -40,8 +40,13 @@ is_written _ = false
 -- a file was at the name of its output
 abbrev pub is_there : Fate → Bool
 is_there fates.There = true
-is_there fates.Occupied = true
+is_there fates.Taken = true
 is_there _ = false
+
+-- its output was there
+abbrev pub was_done : Fate → Bool
+was_done fates.There = true
+was_done _ = false
 
 -- a file is at the name of its output
 abbrev pub has_output : Fate → Bool

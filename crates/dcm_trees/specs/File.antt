@@ -1,6 +1,8 @@
 -- What is done with a file of a tree.
 use Rattle.std.specs.Prelude.{◌≡◌, ◌≢◌, ℕ, ◌+◌, length, List, [], ◌∷◌, codes, bytes_eq, map, Bool, true, false, ◌&&◌, ◌||◌}
-use Rattle.std.specs.Prelude.{Some, None, Result, Ok, Err}
+use Rattle.std.specs.Prelude.{Some, None, Result, Ok, Err, ◌==◌, nat_le, take, drop, if◌then◌else◌}
+use Rattle.std.specs.List.{list_all}
+use Rattle.std.specs.Str.{byte}
 use Rattle.dcm_names.specs.NamedLines.{named_line, unopened_line}
 use Rattle.dcm_walk.specs.Names.{is_slash, small}
 use Rattle.dcm_walk.specs.Visits.{Named}
@@ -17,7 +19,7 @@ use Rattle.dcm_trees.specs.declared.place.Place.{Place}
 use Rattle.dcm_trees.specs.declared.task.NoDays.{NoDays}
 use Rattle.dcm_trees.specs.Fate.{fate_of, text_of}
 use Rattle.dcm_trees.specs.Instance.{DoesUnnamed}
-use Rattle.dcm_trees.specs.Lines.{taken_line, place_lines, place_fate, no_days_line, no_days_fate}
+use Rattle.dcm_trees.specs.Lines.{barred_line, place_lines, place_fate, no_days_line, no_days_fate}
 pub use Rattle.dcm_trees.specs.Manner.{Manner, manner_of}
 use Rattle.dcm_trees.specs.Opening.{OpensFile}
 use Rattle.dcm_trees.specs.Part.{MakesPart, TellsNoPart, FillsAndNames}
@@ -27,9 +29,31 @@ use Rattle.dcm_trees.specs.World.{World}
 
 -- ---- the index of a medium
 
--- its name, in capitals or not
+abbrev pub is_digit : ℕ → Bool
+is_digit b = nat_le (byte "0") b && nat_le b (byte "9")
+
+-- digits, at least one
+abbrev pub are_digits : List ℕ → Bool
+are_digits [] = false
+are_digits (b ∷ bs) = is_digit b && list_all is_digit bs
+
+-- nothing, or a version: a semicolon and digits (ISO 9660, section 7.5.1)
+abbrev pub is_version : List ℕ → Bool
+is_version [] = true
+is_version (b ∷ bs) = (b == byte ";") && are_digits bs
+
+-- which may have the dot of an empty extension before it
+abbrev pub is_behind_index : List ℕ → Bool
+is_behind_index [] = true
+is_behind_index (b ∷ bs) = if b == byte "." then is_version bs else is_version (b ∷ bs)
+
+-- its name as PS3.10 has it, in capitals or not
+abbrev pub is_index_name : List ℕ → Bool
+is_index_name name = bytes_eq (map small name) (codes "dicomdir")
+
+-- its name, and what a medium may write behind
 abbrev pub is_index : List ℕ → Bool
-is_index name = bytes_eq (map small name) (codes "dicomdir")
+is_index name = nat_le 8 (length name) && (is_index_name (take 8 name) && is_behind_index (drop 8 name))
 
 -- it stands behind a slash, up to the end
 abbrev pub ends_in_index : List ℕ → Bool
@@ -77,7 +101,7 @@ pub data DoesPlaced {S I O F E : Type 0} (w : World S I O F E) (m : Manner) (n :
 -- the path of its output is short enough, or not
 pub data DoesNamed {S I O F E : Type 0} (w : World S I O F E) (m : Manner) (n : Named) (mode : ℕ) (from : E)
     (before : S) (r : Result Fate RunStop) (to : E) (after : S) : Type 0 where
-  too_long : path_in m.output n.relative ≡ None → Reports w.errors from to (taken_line n.name)
+  too_long : path_in m.output n.relative ≡ None → Reports w.errors from to (barred_line n.name)
       → r ≡ Ok fates.Unwritten → after ≡ before → DoesNamed w m n mode from before r to after
   placed : (path : List ℕ) → path_in m.output n.relative ≡ Some path
       → DoesPlaced w m n mode path from before r to after → DoesNamed w m n mode from before r to after

@@ -28,8 +28,9 @@ use Rattle.dcm_trees.specs.declared.place.Place.{Place}
 use Rattle.dcm_trees.specs.declared.task.NoDays.{NoDays}
 use Rattle.dcm_trees.specs.declared.place.Place.TheVariants.{There}
 use Rattle.dcm_trees.specs.Fate.{is_written}
-use Rattle.dcm_trees.specs.Lines.{ending_lines, ending_fate, output_line, taken_line, no_days_line, no_days_fate}
+use Rattle.dcm_trees.specs.Lines.{ended_lines, ending_fate, output_line, barred_line, no_days_line, no_days_fate}
 use Rattle.dcm_trees.specs.Manner.{Manner}
+use Rattle.dcm_trees.specs.Modes.{Modes}
 use Rattle.dcm_trees.specs.Opening.{OpensFile}
 use Rattle.dcm_trees.specs.Part.{MakesPart, RemovesPart, Fills, GivesName, ClearsPart, naming_lines, naming_fate}
 use Rattle.dcm_trees.specs.Part.{TellsNoPart}
@@ -107,12 +108,13 @@ pub data FindsCopy {S I O : Type 0} (may : MayDo S I O) (reader : Reader I) (nam
 -- ---- the name of the part
 
 -- what is at the name is looked at, and the part gets it where that is nothing
-pub data GivesFreeName {S I O F : Type 0} (may : MayDo S I O) (d : FoldersDo S O F) (part path : List ℕ) (base : ℕ)
-    (before : S) (naming : Naming) (after : S) : Type 0 where
+pub data GivesFreeName {S I O F : Type 0} (may : MayDo S I O) (d : FoldersDo S O F) (modes : Modes)
+    (part path : List ℕ) (base : ℕ) (before : S) (naming : Naming) (after : S) : Type 0 where
   not_free : (place : Place) → Finds d path base before place after → is_free place ≡ false → naming ≡ NotFree place
-      → GivesFreeName may d part path base before naming after
+      → GivesFreeName may d modes part path base before naming after
   free : (place : Place) (looked : S) → Finds d path base before place looked → is_free place ≡ true
-      → GivesName may d part path base looked naming after → GivesFreeName may d part path base before naming after
+      → GivesName may d modes part path base looked naming after
+      → GivesFreeName may d modes part path base before naming after
 
 -- the part got its name, or not, what is there was compared with it, that is told, and the part is removed
 pub record PlacesPart {S I O F E : Type 0} (w : World S I O F E) (m : Manner) (name path : List ℕ) (fate : Fate)
@@ -121,7 +123,7 @@ pub record PlacesPart {S I O F E : Type 0} (w : World S I O F E) (m : Manner) (n
   pub same : Bool
   pub named : S
   pub compared : S
-  pub gives : GivesFreeName w.may w.folders m.part path (length m.output + 1) before naming named
+  pub gives : GivesFreeName w.may w.folders m.modes m.part path (length m.output + 1) before naming named
   pub copy : FindsCopy w.may w.reader naming m.part path named same compared
   pub clears : ClearsPart w.may naming m.part compared after
   pub told : Reports w.errors from to (naming_lines name naming same)
@@ -131,7 +133,7 @@ pub record PlacesPart {S I O F E : Type 0} (w : World S I O F E) (m : Manner) (n
 pub data NamesBy {S I O F E : Type 0} (w : World S I O F E) (m : Manner) (name : List ℕ) (instance : Instance)
     (fate : Fate) (from : E) (before : S) (done : Done) (to : E) (after : S) : Type 0 where
   too_long : path_in m.output (name_of_instance instance) ≡ None → RemovesPart w.may m.part before after
-      → Reports w.errors from to (taken_line name) → done ≡ without_name fates.Unwritten
+      → Reports w.errors from to (barred_line name) → done ≡ without_name fates.Unwritten
       → NamesBy w m name instance fate from before done to after
   placed : (path : List ℕ) (became : Fate) (relative : ArrayVec ℕ)
       → path_in m.output (name_of_instance instance) ≡ Some path
@@ -152,13 +154,14 @@ pub data NamesPart {S I O F E : Type 0} (w : World S I O F E) (m : Manner) (name
 -- a job was done of a file into the part: that was named, where all was done, and was removed
 pub data FillsByInstance {S I O F E : Type 0} (w : World S I O F E) (job : Job) (m : Manner) (name : List ℕ)
     (input : I) (output : O) (from : E) (before : S) (done : Done) (to : E) (after : S) : Type 0 where
-  not_done : (ending : Ending) (filled : S) → Fills w.may w.reader w.output job input output before ending filled
-      → is_written (ending_fate ending) ≡ false → Reports w.errors from to (ending_lines name ending)
+  not_done : (ending : Ending) (filled : S)
+      → (fills : Fills w.may w.reader w.output job input output before ending filled)
+      → is_written (ending_fate ending) ≡ false → Reports w.errors from to (ended_lines name ending fills.remarks)
       → RemovesPart w.may m.part filled after → done ≡ without_name (ending_fate ending)
       → FillsByInstance w job m name input output from before done to after
   has_done : (ending : Ending) (filled : S) (told : E)
-      → Fills w.may w.reader w.output job input output before ending filled
-      → is_written (ending_fate ending) ≡ true → Reports w.errors from told (ending_lines name ending)
+      → (fills : Fills w.may w.reader w.output job input output before ending filled)
+      → is_written (ending_fate ending) ≡ true → Reports w.errors from told (ended_lines name ending fills.remarks)
       → NamesPart w m name (ending_fate ending) told filled done to after
       → FillsByInstance w job m name input output from before done to after
 

@@ -3,6 +3,7 @@ pub mod Share
 pub mod Fate
 pub mod Row
 pub mod Tally
+pub mod Modes
 pub mod Place
 pub mod Opening
 pub mod Task

@@ -1,8 +1,9 @@
 -- What is told of a file of a tree, and what became of it.
 use Rattle.std.specs.Prelude.{ℕ, zero, suc, ◌/◌, ◌%◌, ◌==◌, List, [], ◌++◌, codes, Bool, if◌then◌else◌}
-use Rattle.dcm_names.specs.NamedLines.{named_line, fault_line, unread_line, unplaced_line, unopened_line}
+use Rattle.dcm_names.specs.NamedLines.{emptied_lines, named_line, fault_line, unread_line, unplaced_line, unopened_line}
 use Rattle.dcm_cli.specs.declared.ending.Ending.{Ending}
 use Rattle.dcm_cli.specs.declared.ending.Ending.TheVariants.{Worked, Unread, Output}
+use Rattle.dcm_cli.specs.declared.ending.Remarks.{Remarks}
 use Rattle.dcm_cli.specs.declared.ending.Verdict.{Verdict}
 use Rattle.dcm_cli.specs.declared.ending.Verdict.TheVariants.{Done, PixelsMayShow, Refused, RefusedLine}
 use Rattle.dcm_trees.specs.declared.fate.Fate.{Fate}
@@ -10,7 +11,7 @@ use Rattle.dcm_trees.specs.declared.fate.Fate.TheVariants as fates
 use Rattle.dcm_trees.specs.declared.task.NoDays.{NoDays}
 use Rattle.dcm_trees.specs.declared.task.NoDays.TheVariants as no_days
 use Rattle.dcm_trees.specs.declared.place.Place.{Place}
-use Rattle.dcm_trees.specs.declared.place.Place.TheVariants.{Free, There, Taken}
+use Rattle.dcm_trees.specs.declared.place.Place.TheVariants.{Free, There, Barred}
 
 -- ---- edits without a place
 
@@ -50,6 +51,15 @@ ending_lines name (Worked verdict) = verdict_lines name verdict
 ending_lines name (Unread count) = unread_line name count
 ending_lines name Output = output_line name
 
+-- what is remarked is told before, unless the output failed
+abbrev pub remarks_told : (name : List ℕ) → Ending → Remarks → List ℕ
+remarks_told name (Worked verdict) remarks = emptied_lines name remarks.emptied
+remarks_told name (Unread count) remarks = emptied_lines name remarks.emptied
+remarks_told name Output remarks = []
+
+abbrev pub ended_lines : (name : List ℕ) → Ending → Remarks → List ℕ
+ended_lines name ending remarks = remarks_told name ending remarks ++ ending_lines name ending
+
 abbrev pub ending_fate : Ending → Fate
 ending_fate (Worked verdict) = verdict_fate verdict
 ending_fate (Unread count) = fates.Unread
@@ -68,21 +78,21 @@ no_days_fate _ = fates.Unread
 
 -- ---- a name of an output that is not free
 
-abbrev pub taken_line : (name : List ℕ) → List ℕ
-taken_line name = named_line name (codes "output cannot be opened")
+abbrev pub barred_line : (name : List ℕ) → List ℕ
+barred_line name = named_line name (codes "output cannot be opened")
 
 abbrev pub there_lines : (name : List ℕ) → (continues : Bool) → List ℕ
 there_lines name continues = if continues then [] else named_line name (codes "output is there already")
 
 abbrev pub place_lines : (name : List ℕ) → Place → (continues : Bool) → List ℕ
 place_lines name There continues = there_lines name continues
-place_lines name Taken continues = taken_line name
-place_lines name Free continues = taken_line name
+place_lines name Barred continues = barred_line name
+place_lines name Free continues = barred_line name
 
 abbrev pub there_fate : (continues : Bool) → Fate
-there_fate continues = if continues then fates.There else fates.Occupied
+there_fate continues = if continues then fates.There else fates.Taken
 
 abbrev pub place_fate : Place → (continues : Bool) → Fate
 place_fate There continues = there_fate continues
-place_fate Taken continues = fates.Unwritten
+place_fate Barred continues = fates.Unwritten
 place_fate Free continues = fates.Unwritten

@@ -10,8 +10,13 @@ use Rattle.dcm_files.specs.Devices.{MayDo}
 use Rattle.dcm_files.specs.Folders.{FoldersDo}
 use Rattle.dcm_files.specs.declared.opened.Opened.{Opened}
 use Rattle.dcm_words.specs.Words.{Job}
+use Rattle.dcm_cli.specs.declared.ending.Ended.{Ended}
 use Rattle.dcm_cli.specs.declared.ending.Ending.{Ending}
+use Rattle.dcm_cli.specs.declared.ending.Ending.TheVariants.{Worked, Output}
+use Rattle.dcm_cli.specs.declared.ending.Remarks.{Remarks}
+use Rattle.dcm_cli.specs.declared.ending.Verdict.TheVariants.{Done}
 use Rattle.dcm_cli.specs.Calls.{Reader, Finishes, Reports}
+use Rattle.dcm_cli.specs.Run.{RemarkedAs}
 use Rattle.dcm_trees.specs.declared.fate.Fate.{Fate}
 use Rattle.dcm_trees.specs.declared.fate.Fate.TheVariants as fates
 use Rattle.dcm_trees.specs.declared.part.Naming.{Naming}
@@ -23,8 +28,9 @@ use Rattle.dcm_trees.specs.declared.progress.Stop.TheVariants as stops
 use Rattle.dcm_trees.specs.declared.place.NotMade.{NotMade}
 use Rattle.dcm_trees.specs.declared.place.Place.{Place}
 use Rattle.dcm_trees.specs.Fate.{is_written}
-use Rattle.dcm_trees.specs.Lines.{ending_lines, ending_fate, output_line, taken_line, place_lines, place_fate}
+use Rattle.dcm_trees.specs.Lines.{ended_lines, ending_fate, output_line, barred_line, place_lines, place_fate}
 use Rattle.dcm_trees.specs.Manner.{Manner}
+use Rattle.dcm_trees.specs.Modes.{Modes}
 use Rattle.dcm_trees.specs.Place.{is_free, Finds, MakesWay}
 use Rattle.dcm_trees.specs.World.{World}
 
@@ -49,15 +55,31 @@ pub data RemovesPart {S I O : Type 0} (may : MayDo S I O) (part : List ℕ) (bef
   removed : (r : Result (Unit {0}) Error) → IsUtf8 part → may.removes before part r after
       → RemovesPart may part before after
 
+-- how a job ended whose output was then closed: where all was done, and the closing lost bytes, the output failed
+abbrev pub after_closing : Ending → Result (Unit {0}) Error → Ending
+after_closing (Worked (Done unplaced)) (Err e) = Output
+after_closing ending closing = ending
+
 -- a job was done from a file into the part, and both were given back exactly as that left them
 pub record Fills {S I O : Type 0} (may : MayDo S I O) (r : Reader I) (w : Writer O) (job : Job) (input : I) (output : O)
     (before : S) (ending : Ending) (after : S) : Type 0 where
   pub left : I
   pub written : O
   pub closed : S
-  pub finished : Finishes r w job input left output written ending
-  pub closes : may.closes before written closed
+  pub ended : Ending
+  pub closing : Result (Unit {0}) Error
+  pub finished : Finishes r w job input left output written ended
+  pub remarks : Remarks
+  pub remarked : RemarkedAs job finished.works.given finished.works.how finished.worked remarks
+  pub closes : may.closes before written closing closed
   pub releases : may.releases closed left after
+  pub ending_is : ending ≡ after_closing ended closing
+
+-- with what is remarked of the file
+pub record FillsOn {S I O : Type 0} (may : MayDo S I O) (r : Reader I) (w : Writer O) (job : Job) (input : I) (output : O)
+    (before : S) (ended : Ended) (after : S) : Type 0 where
+  pub fills : Fills may r w job input output before ended.ending after
+  pub remarks_are : fills.remarks ≡ ended.remarks
 
 -- ---- the name of an output
 
@@ -90,13 +112,13 @@ pub data GivesSecondName {S I O F : Type 0} (may : MayDo S I O) (d : FoldersDo S
       → GivesSecondName may d part path base before naming after
 
 -- the folders on the way are made first
-pub data GivesName {S I O F : Type 0} (may : MayDo S I O) (d : FoldersDo S O F) (part path : List ℕ) (base : ℕ)
-    (before : S) (naming : Naming) (after : S) : Type 0 where
-  no_way : (e : NotMade) → MakesWay d path base before (Err e) after → naming ≡ Failed
-      → GivesName may d part path base before naming after
-  on_its_way : (has_way : S) → MakesWay d path base before (Ok _) has_way
+pub data GivesName {S I O F : Type 0} (may : MayDo S I O) (d : FoldersDo S O F) (modes : Modes) (part path : List ℕ)
+    (base : ℕ) (before : S) (naming : Naming) (after : S) : Type 0 where
+  no_way : (e : NotMade) → MakesWay d modes path base before (Err e) after → naming ≡ Failed
+      → GivesName may d modes part path base before naming after
+  on_its_way : (has_way : S) → MakesWay d modes path base before (Ok _) has_way
       → GivesSecondName may d part path base has_way naming after
-      → GivesName may d part path base before naming after
+      → GivesName may d modes part path base before naming after
 
 abbrev pub is_moved : Naming → Bool
 is_moved Moved = true
@@ -127,7 +149,7 @@ pub record NamesOutput {S I O F E : Type 0} (may : MayDo S I O) (d : FoldersDo S
     (name path : List ℕ) (fate : Fate) (from : E) (before : S) (became : Fate) (to : E) (after : S) : Type 0 where
   pub naming : Naming
   pub named : S
-  pub gives : GivesName may d m.part path (length m.output + 1) before naming named
+  pub gives : GivesName may d m.modes m.part path (length m.output + 1) before naming named
   pub clears : ClearsPart may naming m.part named after
   pub told : Reports e from to (naming_lines name naming m.continues)
   pub becomes : became ≡ naming_fate naming fate m.continues
@@ -137,13 +159,14 @@ pub record NamesOutput {S I O F E : Type 0} (may : MayDo S I O) (d : FoldersDo S
 -- a job was done of a file into the part: that got the name of the output, where all was done, and was removed
 pub data FillsAndNames {S I O F E : Type 0} (w : World S I O F E) (job : Job) (m : Manner) (name path : List ℕ) (input : I)
     (output : O) (from : E) (before : S) (fate : Fate) (to : E) (after : S) : Type 0 where
-  not_done : (ending : Ending) (filled : S) → Fills w.may w.reader w.output job input output before ending filled
-      → is_written (ending_fate ending) ≡ false → Reports w.errors from to (ending_lines name ending)
+  not_done : (ending : Ending) (filled : S)
+      → (fills : Fills w.may w.reader w.output job input output before ending filled)
+      → is_written (ending_fate ending) ≡ false → Reports w.errors from to (ended_lines name ending fills.remarks)
       → RemovesPart w.may m.part filled after → fate ≡ ending_fate ending
       → FillsAndNames w job m name path input output from before fate to after
   has_done : (ending : Ending) (filled : S) (told : E)
-      → Fills w.may w.reader w.output job input output before ending filled
-      → is_written (ending_fate ending) ≡ true → Reports w.errors from told (ending_lines name ending)
+      → (fills : Fills w.may w.reader w.output job input output before ending filled)
+      → is_written (ending_fate ending) ≡ true → Reports w.errors from told (ended_lines name ending fills.remarks)
       → NamesOutput w.may w.folders w.errors m name path (ending_fate ending) told filled fate to after
       → FillsAndNames w job m name path input output from before fate to after
 
@@ -157,5 +180,5 @@ stop_of PartNotMade = None
 pub data TellsNoPart {E : Type 0} (e : Writer E) (name : List ℕ) (cause : NoPart) (from : E)
     (r : Result Fate RunStop) (to : E) : Type 0 where
   ends_run : (stop : RunStop) → stop_of cause ≡ Some stop → to ≡ from → r ≡ Err stop → TellsNoPart e name cause from r to
-  told : cause ≡ PartNotMade → Reports e from to (taken_line name) → r ≡ Ok fates.Unwritten
+  told : cause ≡ PartNotMade → Reports e from to (barred_line name) → r ≡ Ok fates.Unwritten
       → TellsNoPart e name cause from r to

@@ -13,12 +13,14 @@ use Rattle.dcm_files.specs.declared.folders.FoundKind.TheVariants as kinds
 use Rattle.dcm_files.specs.declared.folders.Links.TheVariants.{Kept}
 use Rattle.dcm_walk.specs.Names.{PATH_LIMIT, below}
 use Rattle.dcm_walk.specs.List.{IsSlash}
+use Rattle.dcm_trees.specs.declared.modes.NoMode.{NoMode}
 use Rattle.dcm_trees.specs.declared.place.Place.{Place}
-use Rattle.dcm_trees.specs.declared.place.Place.TheVariants.{Free, There, Taken}
+use Rattle.dcm_trees.specs.declared.place.Place.TheVariants.{Free, There, Barred}
 use Rattle.dcm_trees.specs.declared.place.Way.{Way}
 use Rattle.dcm_trees.specs.declared.place.Way.TheVariants.{Whole, Missing, Blocked}
 use Rattle.dcm_trees.specs.declared.place.Unseen.{Unseen}
 use Rattle.dcm_trees.specs.declared.place.NotMade.{NotMade}
+use Rattle.dcm_trees.specs.Modes.{Modes, FindsMode}
 
 -- ---- paths
 
@@ -72,7 +74,7 @@ pub data LooksAlong {S O F : Type 0} (d : FoldersDo S O F) (path : List ℕ) (ba
 -- what is at the end of a way
 abbrev pub place_at : FoundKind → Place
 place_at kinds.File = There
-place_at _ = Taken
+place_at _ = Barred
 
 abbrev pub place_of_found : Option Found → Place
 place_of_found None = Free
@@ -80,18 +82,18 @@ place_of_found (Some found) = place_at found.kind
 
 abbrev pub place_of : Result (Option Found) Unseen → Place
 place_of (Ok found) = place_of_found found
-place_of (Err u) = Taken
+place_of (Err u) = Barred
 
 abbrev pub is_free : Place → Bool
 is_free Free = true
 is_free There = false
-is_free Taken = false
+is_free Barred = false
 
 -- what is at the path of an output: its way ends before, or it is looked at
 pub data Finds {S O F : Type 0} (d : FoldersDo S O F) (path : List ℕ) (base : ℕ) (before : S) (place : Place)
     (after : S) : Type 0 where
   missing : LooksAlong d path base before Missing after → place ≡ Free → Finds d path base before place after
-  blocked : LooksAlong d path base before Blocked after → place ≡ Taken → Finds d path base before place after
+  blocked : LooksAlong d path base before Blocked after → place ≡ Barred → Finds d path base before place after
   at_its_end : (seen : Result (Option Found) Unseen) (mid : S) → LooksAlong d path base before Whole mid
       → Looks d path mid seen after → place ≡ place_of seen → Finds d path base before place after
 
@@ -103,33 +105,44 @@ pub data FindsFolder {S O F : Type 0} (d : FoldersDo S O F) (path : List ℕ) (b
   by_looking : (seen : Result (Option Found) Unseen) → Looks d path before seen after
       → is_there ≡ is_none (end_of_way seen) → FindsFolder d path before is_there after
 
--- a folder is made, or is there
-pub data HasFolder {S O F : Type 0} (d : FoldersDo S O F) (path : List ℕ) (before : S)
+-- a folder is made with bits of a mode, or is there
+pub data MakesNew {S O F : Type 0} (d : FoldersDo S O F) (path : List ℕ) (mode : ℕ) (before : S)
     (r : Result (Unit {0}) NotMade) (after : S) : Type 0 where
-  no_text : (e : NotMade) → ¬ (IsUtf8 path) → r ≡ Err e → after ≡ before → HasFolder d path before r after
-  made : IsUtf8 path → d.makes_folder before path (Ok _) after → r ≡ Ok _ → HasFolder d path before r after
-  was_there : (cause : Error) (tried : S) → IsUtf8 path → d.makes_folder before path (Err cause) tried
+  no_text : (e : NotMade) → ¬ (IsUtf8 path) → r ≡ Err e → after ≡ before → MakesNew d path mode before r after
+  made : IsUtf8 path → d.makes_folder before path mode (Ok _) after → r ≡ Ok _ → MakesNew d path mode before r after
+  was_there : (cause : Error) (tried : S) → IsUtf8 path → d.makes_folder before path mode (Err cause) tried
       → error_kind cause ≡ AlreadyExists → FindsFolder d path tried true after → r ≡ Ok _
-      → HasFolder d path before r after
-  no_folder : (cause : Error) (e : NotMade) (tried : S) → IsUtf8 path → d.makes_folder before path (Err cause) tried
-      → error_kind cause ≡ AlreadyExists → FindsFolder d path tried false after → r ≡ Err e
-      → HasFolder d path before r after
-  not_made : (cause : Error) (e : NotMade) → IsUtf8 path → d.makes_folder before path (Err cause) after
-      → error_kind cause ≢ AlreadyExists → r ≡ Err e → HasFolder d path before r after
+      → MakesNew d path mode before r after
+  no_folder : (cause : Error) (e : NotMade) (tried : S) → IsUtf8 path
+      → d.makes_folder before path mode (Err cause) tried → error_kind cause ≡ AlreadyExists
+      → FindsFolder d path tried false after → r ≡ Err e → MakesNew d path mode before r after
+  not_made : (cause : Error) (e : NotMade) → IsUtf8 path → d.makes_folder before path mode (Err cause) after
+      → error_kind cause ≢ AlreadyExists → r ≡ Err e → MakesNew d path mode before r after
+
+-- a folder, by its name in the folder of the outputs, is there; or it is made, with the mode that is found for that name
+pub data HasFolder {S O F : Type 0} (d : FoldersDo S O F) (modes : Modes) (path : List ℕ) (base : ℕ) (before : S)
+    (r : Result (Unit {0}) NotMade) (after : S) : Type 0 where
+  there_already : FindsFolder d path before true after → r ≡ Ok _ → HasFolder d modes path base before r after
+  no_mode : (n : NoMode) (e : NotMade) (looked : S) → FindsFolder d path before false looked
+      → FindsMode d modes (drop base path) looked (Err n) after → r ≡ Err e
+      → HasFolder d modes path base before r after
+  has_mode : (mode : ℕ) (looked seen : S) → FindsFolder d path before false looked
+      → FindsMode d modes (drop base path) looked (Ok mode) seen → MakesNew d path mode seen r after
+      → HasFolder d modes path base before r after
 
 -- the folders on the way to a path were made up to a place of it, one after another
-pub data AreMade {S O F : Type 0} (d : FoldersDo S O F) (path : List ℕ) (base : ℕ) (before : S)
+pub data AreMade {S O F : Type 0} (d : FoldersDo S O F) (modes : Modes) (path : List ℕ) (base : ℕ) (before : S)
     : (at : ℕ) → (after : S) → Type 0 where
-  none_made : {at : ℕ} {after : S} → at ≡ base → after ≡ before → AreMade d path base before at after
-  and_made : {at : ℕ} {after : S} (from size : ℕ) (mid : S) → AreMade d path base before from mid
-      → IsSlash (drop from path) (Some size) → HasFolder d (take (from + size) path) mid (Ok _) after
-      → at ≡ from + (size + 1) → AreMade d path base before at after
+  none_made : {at : ℕ} {after : S} → at ≡ base → after ≡ before → AreMade d modes path base before at after
+  and_made : {at : ℕ} {after : S} (from size : ℕ) (mid : S) → AreMade d modes path base before from mid
+      → IsSlash (drop from path) (Some size) → HasFolder d modes (take (from + size) path) base mid (Ok _) after
+      → at ≡ from + (size + 1) → AreMade d modes path base before at after
 
 -- all of them were, or one of them cannot be made
-pub data MakesWay {S O F : Type 0} (d : FoldersDo S O F) (path : List ℕ) (base : ℕ) (before : S)
+pub data MakesWay {S O F : Type 0} (d : FoldersDo S O F) (modes : Modes) (path : List ℕ) (base : ℕ) (before : S)
     (r : Result (Unit {0}) NotMade) (after : S) : Type 0 where
-  all_made : (at : ℕ) → AreMade d path base before at after → IsSlash (drop at path) None → r ≡ Ok _
-      → MakesWay d path base before r after
-  not_all : (at size : ℕ) (e : NotMade) (mid : S) → AreMade d path base before at mid
-      → IsSlash (drop at path) (Some size) → HasFolder d (take (at + size) path) mid (Err e) after → r ≡ Err e
-      → MakesWay d path base before r after
+  all_made : (at : ℕ) → AreMade d modes path base before at after → IsSlash (drop at path) None → r ≡ Ok _
+      → MakesWay d modes path base before r after
+  not_all : (at size : ℕ) (e : NotMade) (mid : S) → AreMade d modes path base before at mid
+      → IsSlash (drop at path) (Some size) → HasFolder d modes (take (at + size) path) base mid (Err e) after
+      → r ≡ Err e → MakesWay d modes path base before r after

@@ -18,6 +18,7 @@ use Rattle.dcm_trees.specs.declared.progress.Stop.{Stop}
 use Rattle.dcm_trees.specs.declared.run.TreeRun.{TreeRun}
 use Rattle.dcm_trees.specs.declared.tally.Tally.{Tally}
 use Rattle.dcm_trees.specs.Manner.{manner_of}
+use Rattle.dcm_trees.specs.Modes.{modes_as}
 use Rattle.dcm_trees.specs.Row.{header}
 use Rattle.dcm_trees.specs.Task.{task_of}
 use Rattle.dcm_trees.specs.Work.{Progress, PutsRow}
@@ -36,12 +37,16 @@ line text = codes "dcmtools: " ++ text ++ codes "\n"
 abbrev pub part_line : (part : List ℕ) → List ℕ
 part_line part = named_line part (codes "another run is at work, or was cut off")
 
+abbrev pub work_line : (part : List ℕ) → List ℕ
+work_line part = named_line part (codes "another run is at work")
+
 abbrev pub refusal_line : Refusal → (part : List ℕ) → List ℕ
 refusal_line refusals.Input part = line (codes "input cannot be opened")
 refusal_line refusals.Output part = line (codes "output cannot be opened")
 refusal_line refusals.Same part = line (codes "output is the input")
 refusal_line refusals.OutputWithin part = line (codes "output is within the input")
 refusal_line refusals.InputWithin part = line (codes "input is within the output")
+refusal_line refusals.AtWork part = work_line part
 refusal_line refusals.PartThere part = part_line part
 refusal_line refusals.NotEmpty part = line (codes "output is not empty")
 
@@ -52,7 +57,7 @@ abbrev pub end_line : End → (is_empty : Bool) → (list part : List ℕ) → L
 end_line Whole is_empty list part = whole_line is_empty
 end_line (Unread count) is_empty list part = unread_line list count
 end_line (Stopped stops.Manifest) is_empty list part = line (codes "output failed")
-end_line (Stopped stops.PartThere) is_empty list part = part_line part
+end_line (Stopped stops.PartThere) is_empty list part = work_line part
 end_line (Stopped stops.Memory) is_empty list part = line (codes "out of memory")
 
 abbrev pub end_status : End → (is_empty : Bool) → ℕ
@@ -74,6 +79,7 @@ pub record Shares (run : TreeRun) (part : List ℕ) (shared : Shared) : Type 0 w
     part = part;
     continues = run.options.continues;
     keeps_names = run.options.keeps_names;
+    modes = modes_as run.modes;
   }
   pub part_is : shared.part ≡ run.options.part
   pub counts_are : shared.shows_counts ≡ run.options.counts

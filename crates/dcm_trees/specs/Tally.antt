@@ -2,7 +2,7 @@
 use Rattle.std.specs.Prelude.{ℕ, ◌+◌, ◌-◌, ◌^◌, ◌%◌, ◌==◌, min, Bool, List, ◌++◌, codes, decimal, if◌then◌else◌}
 use Rattle.dcm_trees.specs.declared.fate.Fate.{Fate}
 use Rattle.dcm_trees.specs.declared.tally.Tally.{Tally}
-use Rattle.dcm_trees.specs.Fate.{is_written, is_there}
+use Rattle.dcm_trees.specs.Fate.{is_written, was_done}
 
 -- the greatest count, which no run reaches: it stays
 abbrev pub MOST : ℕ
@@ -17,7 +17,7 @@ none = record { written = 0; there = 0; not_done = 0 }
 -- a name more
 abbrev pub with : Tally → Fate → Tally
 with t fate = if is_written fate then record t { written = next t.written }
-    else (if is_there fate then record t { there = next t.there } else record t { not_done = next t.not_done })
+    else (if was_done fate then record t { there = next t.there } else record t { not_done = next t.not_done })
 
 abbrev pub files : Tally → ℕ
 files t = min (min (t.written + t.there) MOST + t.not_done) MOST

@@ -1,11 +1,13 @@
 -- A run over a tree: a folder, or a list.
-use Rattle.std.specs.Prelude.{◌≡◌, ℕ, nat_lt, List, [], length, codes, true, false, Option, Some, None, Result, Ok, Err}
+use Rattle.std.specs.Prelude.{◌≡◌, ℕ, nat_lt, List, [], length, codes, bytes_eq, true, false, Option, Some, None, Result, Ok, Err}
+use Rattle.std.specs.Prelude.{if◌then◌else◌}
 use Rattle.std.specs.Str.{IsUtf8}
 use Rattle.std.specs.declared.io.Error.{Error}
 use Rattle.dcm_devices.specs.declared.device.WriteFailed.{WriteFailed}
 use Rattle.dcm_devices.specs.Writing.{Writer}
-use Rattle.dcm_files.specs.Devices.{OpensInput}
+use Rattle.dcm_files.specs.Devices.{OpensInput, standard}
 use Rattle.dcm_files.specs.Folders.{FoldersDo}
+use Rattle.dcm_files.specs.declared.opened.FileKind.{FileKind}
 use Rattle.dcm_files.specs.declared.opened.Opened.{Opened}
 use Rattle.dcm_names.specs.NamedLines.{unopened_line}
 use Rattle.dcm_walk.specs.Folder.{WalksFolder}
@@ -20,6 +22,7 @@ use Rattle.dcm_cli.specs.Status.{DEVICE}
 use Rattle.dcm_trees.specs.declared.beginning.Begun.{Begun}
 use Rattle.dcm_trees.specs.declared.beginning.Refusal.{Refusal}
 use Rattle.dcm_trees.specs.declared.beginning.Refusal.TheVariants.{Input}
+use Rattle.dcm_trees.specs.declared.beginning.Spared.{Spared}
 use Rattle.dcm_trees.specs.declared.progress.Work.{Work}
 use Rattle.dcm_trees.specs.declared.run.TreeRun.{TreeRun}
 use Rattle.dcm_trees.specs.Beginning.{Begins}
@@ -113,6 +116,16 @@ pub data VisitsList {S I O F W E : Type 0} (w : World S I O F E) (m : Writer W) 
 
 -- ---- a run
 
+-- what is read beside the inputs, and is not removed: the key, and a list that is no standard input
+abbrev pub spared_of : TreeRun → Spared
+spared_of run = record { key = run.key; list = None }
+
+abbrev pub kind_of_list : (path : List ℕ) → FileKind → Option FileKind
+kind_of_list path kind = if bytes_eq path standard then None else Some kind
+
+abbrev pub spared_with : TreeRun → (path : List ℕ) → FileKind → Spared
+spared_with run path kind = record { key = run.key; list = kind_of_list path kind }
+
 -- a run is not begun, and that is told
 pub record Refuses {E : Type 0} (e : Writer E) (run : TreeRun) (refusal : Refusal) (from : E) (status : ℕ) (to : E)
     : Type 0 where
@@ -122,13 +135,15 @@ pub record Refuses {E : Type 0} (e : Writer E) (run : TreeRun) (refusal : Refusa
 -- a folder is open: the run is begun and its names are visited, or it is not begun, and the folder is given back
 pub data DoesOpened {S I O F W E : Type 0} (w : World S I O F E) (m : Writer W) (run : TreeRun) (path : List ℕ)
     (opened : F) (manifest : W) (from : E) (before : S) (status : ℕ) (left : W) (to : E) (after : S) : Type 0 where
-  not_begun : (refusal : Refusal) (tried : S)
-      → Begins w.folders path false run.output.now (part_of run) run.options.continues before (Err refusal) tried
-      → w.folders.closes_folder tried opened after → Refuses w.errors run refusal from status to → left ≡ manifest
+  not_begun : (refusal : Refusal) (told : E) (tried : S)
+      → Begins w.may w.folders w.errors path false run.output.now (part_of run) run.options.continues (spared_of run)
+      from before (Err refusal) told tried
+      → w.folders.closes_folder tried opened after → Refuses w.errors run refusal told status to → left ≡ manifest
       → DoesOpened w m run path opened manifest from before status left to after
-  was_begun : (begun : Begun) (mid : S)
-      → Begins w.folders path false run.output.now (part_of run) run.options.continues before (Ok begun) mid
-      → VisitsFolder w m run path begun opened manifest from mid status left to after
+  was_begun : (begun : Begun) (told : E) (mid : S)
+      → Begins w.may w.folders w.errors path false run.output.now (part_of run) run.options.continues (spared_of run)
+      from before (Ok begun) told mid
+      → VisitsFolder w m run path begun opened manifest told mid status left to after
       → DoesOpened w m run path opened manifest from before status left to after
 
 pub data DoesFolder {S I O F W E : Type 0} (w : World S I O F E) (m : Writer W) (run : TreeRun) (path : List ℕ)
@@ -143,23 +158,25 @@ pub data DoesFolder {S I O F W E : Type 0} (w : World S I O F E) (m : Writer W) 
 
 -- a list is open: its names are read from the current folder
 pub data DoesNames {S I O F W E : Type 0} (w : World S I O F E) (m : Writer W) (run : TreeRun) (list : List ℕ)
-    (input : I) (manifest : W) (from : E) (before : S) (status : ℕ) (left : W) (to : E) (after : S) (read : I)
+    (kind : FileKind) (input : I) (manifest : W) (from : E) (before : S) (status : ℕ) (left : W) (to : E) (after : S) (read : I)
     : Type 0 where
-  not_begun : (refusal : Refusal)
-      → Begins w.folders (codes ".") true run.output.now (part_of run) run.options.continues before (Err refusal) after
-      → Refuses w.errors run refusal from status to → left ≡ manifest → read ≡ input
-      → DoesNames w m run list input manifest from before status left to after read
-  was_begun : (begun : Begun) (mid : S)
-      → Begins w.folders (codes ".") true run.output.now (part_of run) run.options.continues before (Ok begun) mid
-      → VisitsList w m run list begun input manifest from mid status left to after read
-      → DoesNames w m run list input manifest from before status left to after read
+  not_begun : (refusal : Refusal) (told : E)
+      → Begins w.may w.folders w.errors (codes ".") true run.output.now (part_of run) run.options.continues
+      (spared_with run list kind) from before (Err refusal) told after
+      → Refuses w.errors run refusal told status to → left ≡ manifest → read ≡ input
+      → DoesNames w m run list kind input manifest from before status left to after read
+  was_begun : (begun : Begun) (told : E) (mid : S)
+      → Begins w.may w.folders w.errors (codes ".") true run.output.now (part_of run) run.options.continues
+      (spared_with run list kind) from before (Ok begun) told mid
+      → VisitsList w m run list begun input manifest told mid status left to after read
+      → DoesNames w m run list kind input manifest from before status left to after read
 
 pub data DoesList {S I O F W E : Type 0} (w : World S I O F E) (m : Writer W) (run : TreeRun) (path : List ℕ)
     (manifest : W) (from : E) (before : S) (status : ℕ) (left : W) (to : E) (after : S) : Type 0 where
   not_opened : (e : Error) → OpensInput w.may path before (Err e) after → Reports w.errors from to (unopened_line path)
       → status ≡ DEVICE → left ≡ manifest → DoesList w m run path manifest from before status left to after
   was_opened : (o : Opened I) (read : I) (mid done : S) → OpensInput w.may path before (Ok o) mid
-      → DoesNames w m run path o.device manifest from mid status left to done read → w.may.releases done read after
+      → DoesNames w m run path o.kind o.device manifest from mid status left to done read → w.may.releases done read after
       → DoesList w m run path manifest from before status left to after
 
 -- a run over the files of a folder, or over those of a list

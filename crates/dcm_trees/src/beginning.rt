@@ -1,10 +1,15 @@
 // The beginning of a run over a tree: what is there, before anything is made.
 ghost use Rattle.std.specs.Prelude.{◌≡◌, ◌≢◌, ◌||◌, true, false, option_map};
+ghost use Rattle.dcm_cli.specs.Calls as calls;
 ghost use Rattle.dcm_trees.specs.Beginning as spec;
+ghost use Rattle.dcm_trees.specs.Modes.{modes_as};
 
+use crate::lines::tell_text;
+use crate::modes::{Modes, new_mode};
 use crate::place::{OutputPath, path_in, was_there};
 use arrayvec::ArrayVec;
-use dcm_files::{EntryName, Folders, Found, FoundKind, Links};
+use dcm_base::{DeviceOut, Watched};
+use dcm_files::{EntryName, FileKind, Folders, Found, FoundKind, Links, System};
 use dcm_walk::FolderNumber;
 use std::str;
 
@@ -30,7 +35,9 @@ pub enum Refusal {
     OutputWithin,
     /// The folder that is read is within it.
     InputWithin,
-    /// What another run writes is there.
+    /// Another run has locked what it writes there.
+    AtWork,
+    /// Something is at the path at which an output is written, and is not known to be left over.
     PartThere,
     /// It has names in it.
     NotEmpty,
@@ -192,14 +199,14 @@ fn is_there<S: Folders>(output: &[u8], system: &mut S) -> Result<bool, Refusal>
     }
 }
 
-/// Makes a folder, unless something is there.
-fn make_folder<S: Folders>(path: &[u8], system: &mut S) -> Result<(), Refusal>
-    ensures { spec.MakesFolder S.folders_do path.now system.old result system.new }
+/// Makes a folder of this mode, unless something is there.
+fn make_folder<S: Folders>(path: &[u8], mode: u32, system: &mut S) -> Result<(), Refusal>
+    ensures { spec.MakesFolder S.folders_do path.now mode system.old result system.new }
 {
     let Ok(text) = str::from_utf8(path) else {
         return Err(Refusal::Output);
     };
-    match system.make_folder(text) {
+    match system.make_folder(text, mode) {
         Ok(()) => Ok(()),
         Err(e) if was_there(&e) => Ok(()),
         Err(_) => Err(Refusal::Output),
@@ -218,12 +225,36 @@ fn folder_at<S: Folders>(path: &[u8], system: &mut S) -> Result<FolderNumber, Re
     }
 }
 
-/// Makes the folder of the outputs. One that was made meanwhile does.
-fn make_output<S: Folders>(output: &[u8], system: &mut S) -> Result<FolderNumber, Refusal>
-    ensures { spec.MakesOutput S.folders_do output.now system.old result system.new }
+/// Makes the folder of the outputs, of its mode. One that was made meanwhile does.
+fn make_output<S: Folders>(
+    modes: Modes,
+    output: &[u8],
+    system: &mut S,
+) -> Result<FolderNumber, Refusal>
+    ensures { spec.MakesOutput S.folders_do (modes_as modes.entry) output.now system.old result system.new }
 {
-    make_folder(output, system)?;
+    let Ok(mode) = new_mode(modes, b"", system) else {
+        return Err(Refusal::Output);
+    };
+    make_folder(output, mode, system)?;
     folder_at(output, system)
+}
+
+/// The folder that is read, but not where names of a list are.
+fn folder_read(input: &[u8], is_list: bool) -> Option<&[u8]>
+    ensures { option_map (λ path. path.now) result ≡ spec.folder_read input.now is_list }
+{
+    if is_list { None } else { Some(input) }
+}
+
+/// By which folder that of the outputs is made.
+fn output_modes(input: &[u8], is_list: bool) -> Modes<'_>
+    ensures { modes_as result ≡ spec.output_modes input.now is_list }
+{
+    Modes {
+        folder: folder_read(input, is_list),
+        by_name: false,
+    }
 }
 
 /// Whether the folder of the outputs is within the folder that is read. Names of a list may lie around it.
@@ -284,7 +315,7 @@ fn make_apart<S: Folders>(
     if is_within(is_list, way) {
         return Err(Refusal::OutputWithin);
     }
-    make_output(output, system)
+    make_output(output_modes(input, is_list), output, system)
 }
 
 /// The folder of the outputs, apart from the folder that is read.
@@ -303,18 +334,122 @@ fn have_output<S: Folders>(
     }
 }
 
-/// Refuses a part that is there.
-fn check_part<S: Folders>(part: &[u8], system: &mut S) -> Result<(), Refusal>
-    ensures { spec.ChecksPart S.folders_do part.now system.old result system.new }
+/// What a run reads beside its inputs. It is not removed, also where it is at the path of the part.
+#[derive(Clone, Copy)]
+pub struct Spared {
+    /// What the key was read of, where there is one.
+    pub key: Option<FileKind>,
+    /// What the names are read of, where they are those of a list.
+    pub list: Option<FileKind>,
+}
+
+/// Whether it is this file.
+fn is_one(kind: Option<FileKind>, found: Found) -> bool
+    ensures { result ≡ spec.is_one kind found }
+{
+    match kind {
+        Some(FileKind::Regular { device, number, .. }) => {
+            device == found.device && number == found.number
+        }
+        _ => false,
+    }
+}
+
+/// Whether the run reads it beside its inputs.
+fn is_spared(spared: Spared, found: Found) -> bool
+    ensures { result ≡ spec.is_spared spared found }
+{
+    is_one(spared.key, found) || is_one(spared.list, found)
+}
+
+/// Whether it is a regular file.
+fn is_file(kind: FoundKind) -> bool
+    ensures { result ≡ spec.is_file kind }
+{
+    matches!(kind, FoundKind::File)
+}
+
+/// Whether what is at the path of the part may be left over.
+fn may_be_left(spared: Spared, found: Found) -> bool
+    ensures { result ≡ spec.may_be_left spared found }
+{
+    is_file(found.kind) && !is_spared(spared, found)
+}
+
+/// Removes a file that this run has locked.
+fn remove_locked<S: System>(part: &str, system: &mut S) -> Result<bool, Refusal>
+    ensures { spec.RemovesLocked S.may_do part.now system.old result system.new }
+{
+    match system.remove(part) {
+        Ok(()) => Ok(true),
+        Err(_) => Err(Refusal::PartThere),
+    }
+}
+
+/// Removes a file that no run has locked: a run left it over.
+fn remove_left<S: System>(part: &str, system: &mut S) -> Result<bool, Refusal>
+    ensures { spec.RemovesLeft S.may_do part.now system.old result system.new }
+{
+    match system.seize(part) {
+        Ok(true) => remove_locked(part, system),
+        Ok(false) => Err(Refusal::AtWork),
+        Err(_) => Err(Refusal::PartThere),
+    }
+}
+
+/// Removes what is at the path of the part, where it may be left over and no run has locked it; else it is refused.
+fn clear_found<S: System>(
+    part: &str,
+    spared: Spared,
+    found: Found,
+    system: &mut S,
+) -> Result<bool, Refusal>
+    ensures { spec.ClearsFound S.may_do part.now spared found system.old result system.new }
+{
+    if may_be_left(spared, found) {
+        remove_left(part, system)
+    } else {
+        Err(Refusal::PartThere)
+    }
+}
+
+/// Looks at the path of the part, and removes what a run left over there. Answers whether it did.
+fn check_part<S: Folders>(part: &[u8], spared: Spared, system: &mut S) -> Result<bool, Refusal>
+    ensures { spec.ChecksPart S.may_do S.folders_do part.now spared system.old result system.new }
 {
     let Ok(text) = str::from_utf8(part) else {
         return Err(Refusal::Output);
     };
     match system.find(text, Links::Kept) {
-        Ok(None) => Ok(()),
-        Ok(Some(_)) => Err(Refusal::PartThere),
+        Ok(None) => Ok(false),
+        Ok(Some(found)) => clear_found(text, spared, found, system),
         Err(_) => Err(Refusal::Output),
     }
+}
+
+/// Tells that the part of a run was left over, where it was.
+fn tell_left<E: DeviceOut>(name: &[u8], was_left: bool, errors: &mut Watched<E>)
+    ensures { calls.Reports E.DeviceOut errors.old errors.new (spec.left_line name.now was_left) }
+{
+    if was_left {
+        tell_text(name, b"left over, and removed", errors);
+    }
+}
+
+/// Looks at the path of the part, and removes what a run left over there, which is told by the name of the part.
+fn clear_way<S: Folders, E: DeviceOut>(
+    path: &[u8],
+    name: &[u8],
+    spared: Spared,
+    system: &mut S,
+    errors: &mut Watched<E>,
+) -> Result<(), Refusal>
+    ensures { spec.ClearsWay S.may_do S.folders_do E.DeviceOut path.now name.now spared errors.old system.old result
+        errors.new system.new }
+{
+    let was_left = check_part(path, spared, system)?;
+    tell_left(name, was_left, errors);
+    Ok(())
 }
 
 /// Refuses a folder that has a name in it.
@@ -377,21 +512,24 @@ fn part_in(output: &[u8], part: &[u8]) -> Result<OutputPath, Refusal>
     }
 }
 
-/// Looks at what is there before a run, and makes the folder of the outputs where it is not there. The names of a list
-/// are read from the current folder.
-pub fn begin<S: Folders>(
+/// Looks at what is there before a run, and makes the folder of the outputs where it is not there. What a run left over
+/// is removed, and that is told. The names of a list are read from the current folder.
+pub fn begin<S: Folders, E: DeviceOut>(
     input: &[u8],
     is_list: bool,
     output: &[u8],
     part: &[u8],
     continues: bool,
+    spared: Spared,
     system: &mut S,
+    errors: &mut Watched<E>,
 ) -> Result<Begun, Refusal>
-    ensures { spec.Begins S.folders_do input.now is_list output.now part.now continues system.old result system.new }
+    ensures { spec.Begins S.may_do S.folders_do E.DeviceOut input.now is_list output.now part.now continues spared
+        errors.old system.old result errors.new system.new }
 {
     let number = have_output(input, is_list, output, system)?;
-    let part = part_in(output, part)?;
-    check_part(part.as_slice(), system)?;
+    let path = part_in(output, part)?;
+    clear_way(path.as_slice(), part, spared, system, errors)?;
     check_use(output, continues, system)?;
-    Ok(Begun { number, part })
+    Ok(Begun { number, part: path })
 }

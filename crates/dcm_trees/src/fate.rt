@@ -13,10 +13,10 @@ pub enum Fate {
     Written,
     /// It has an output, in which an edit found no place.
     Unplaced,
-    /// Its output was there, as a run that goes on expects it.
+    /// Its output was there: a copy, or what a run before wrote.
     There,
-    /// A file was at the name of its output.
-    Occupied,
+    /// Another's file was at the name of its output, as far as is known.
+    Taken,
     /// Nothing was done with it.
     LeftOut,
     /// It is the index of a medium, which is not copied.
@@ -41,7 +41,8 @@ impl Fate {
         match self {
             Fate::Written => b"written".as_slice(),
             Fate::Unplaced => b"unplaced".as_slice(),
-            Fate::There | Fate::Occupied => b"there".as_slice(),
+            Fate::There => b"there".as_slice(),
+            Fate::Taken => b"taken".as_slice(),
             Fate::LeftOut | Fate::MediaIndex => b"left-out".as_slice(),
             Fate::Unread => b"unread".as_slice(),
             Fate::Unwritten => b"unwritten".as_slice(),
@@ -60,7 +61,7 @@ impl Fate {
             Fate::Written | Fate::There | Fate::MediaIndex => DONE,
             Fate::Refused | Fate::Unnamed => FAULT,
             Fate::Unplaced | Fate::Pixels => REMARK,
-            Fate::Occupied | Fate::LeftOut | Fate::Unread | Fate::Unwritten => DEVICE,
+            Fate::Taken | Fate::LeftOut | Fate::Unread | Fate::Unwritten => DEVICE,
         }
     }
 
@@ -82,7 +83,14 @@ impl Fate {
     pub fn is_there(self) -> bool
         ensures { result ≡ spec.is_there self }
     {
-        matches!(self, Fate::There | Fate::Occupied)
+        matches!(self, Fate::There | Fate::Taken)
+    }
+
+    /// Whether its output was there.
+    pub fn was_done(self) -> bool
+        ensures { result ≡ spec.was_done self }
+    {
+        matches!(self, Fate::There)
     }
 }
 

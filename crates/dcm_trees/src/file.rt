@@ -1,5 +1,6 @@
 // A file of a tree, into its output.
 ghost use Rattle.std.specs.Prelude.{◌≡◌, ◌≢◌, ◌≤◌, ◌+◌, length, true, false};
+ghost use Rattle.std.specs.List.{list_all};
 ghost use Rattle.dcm_cli.specs.Calls as calls;
 ghost use Rattle.dcm_walk.specs.Visits.{name_of};
 ghost use Rattle.dcm_words.specs.Plans.{job_of};
@@ -10,6 +11,7 @@ ghost use Rattle.dcm_trees.specs.World.{world};
 use crate::fate::{Fate, fate_of, text_of};
 use crate::instance::do_unnamed;
 use crate::lines::{tell_no_days, tell_place, tell_text};
+use crate::modes::Modes;
 use crate::part::{fill_and_name, make_part, open_file, tell_no_part};
 use crate::place::{Place, path_in, place_at};
 use crate::progress::Stop;
@@ -39,6 +41,8 @@ pub struct Manner<'a> {
     pub continues: bool,
     /// Whether an output has the name of its input, and not that of the instance in it.
     pub keeps_names: bool,
+    /// The modes of folders that are made.
+    pub modes: Modes<'a>,
 }
 
 /// The name of an output, of the instance in it.
@@ -61,11 +65,57 @@ fn under_its_name(done: Result<Fate, Stop>) -> Result<Done, Stop>
     })
 }
 
+/// Whether a byte is a digit.
+fn is_digit(byte: u8) -> bool
+    ensures { result ≡ spec.is_digit byte }
+{
+    b'0' <= byte && byte <= b'9'
+}
+
+/// Whether all bytes are digits.
+fn are_digits(bytes: &[u8]) -> bool
+    ensures { result ≡ list_all spec.is_digit bytes.now }
+{
+    bytes.iter().all(|byte| is_digit(*byte))
+}
+
+/// Whether bytes are nothing, or the version of a name: a semicolon and digits (ISO 9660, section 7.5.1).
+fn is_version(bytes: &[u8]) -> bool
+    ensures { result ≡ spec.is_version bytes.now }
+{
+    match bytes {
+        [] => true,
+        [b';', first, digits @ ..] => is_digit(*first) && are_digits(digits),
+        _ => false,
+    }
+}
+
+/// Whether bytes may stand behind the name of the index of a medium: the dot of an empty extension, and a version.
+fn is_behind_index(bytes: &[u8]) -> bool
+    ensures { result ≡ spec.is_behind_index bytes.now }
+{
+    match bytes {
+        [b'.', version @ ..] => is_version(version),
+        _ => is_version(bytes),
+    }
+}
+
+/// Whether bytes are the name that PS3.10 gives the index of a medium, in capitals or not.
+fn is_index_name(bytes: &[u8]) -> bool
+    ensures { result ≡ spec.is_index_name bytes.now }
+{
+    bytes.eq_ignore_ascii_case(MEDIA_INDEX)
+}
+
 /// Whether a name is that of the index of a medium.
 fn is_index(name: &[u8]) -> bool
     ensures { result ≡ spec.is_index name.now }
 {
-    name.eq_ignore_ascii_case(MEDIA_INDEX)
+    if name.len() < MEDIA_INDEX.len() {
+        return false;
+    }
+    let (index, behind) = name.split_at(MEDIA_INDEX.len());
+    is_index_name(index) && is_behind_index(behind)
 }
 
 /// Whether the last part of a relative name is that of the index of a medium.
@@ -171,7 +221,7 @@ fn do_named<S: Folders, E: DeviceOut>(
 {
     match path_in(manner.output, named.relative) {
         Some(path) => do_placed(manner, named, mode, path.as_slice(), system, errors),
-        None => Ok(tell_place(named.name, Place::Taken, manner.continues, errors)),
+        None => Ok(tell_place(named.name, Place::Barred, manner.continues, errors)),
     }
 }
 

@@ -4,12 +4,14 @@ ghost use Rattle.dcm_cli.specs.Calls as calls;
 ghost use Rattle.dcm_walk.specs.Visits.{name_of};
 ghost use Rattle.dcm_words.specs.Plans.{job_of};
 ghost use Rattle.dcm_trees.specs.Manner.{manner_of};
+ghost use Rattle.dcm_trees.specs.Modes.{modes_as};
 ghost use Rattle.dcm_trees.specs.Instance as spec;
 ghost use Rattle.dcm_trees.specs.World.{world};
 
 use crate::fate::Fate;
 use crate::file::{Done, Manner};
-use crate::lines::{tell_ending, tell_no_days, tell_place, tell_text};
+use crate::lines::{tell_ended, tell_no_days, tell_place, tell_text};
+use crate::modes::Modes;
 use crate::part::{
     Naming, NoPart, clear_part, fill, give_name, make_part, open_file, remove_part, tell_naming,
     tell_no_part,
@@ -122,13 +124,20 @@ fn is_copy<S: System>(naming: Naming, part: &[u8], path: &[u8], system: &mut S) 
 }
 
 /// Gives the part the name of its output, if nothing is there.
-fn give_free_name<S: Folders>(part: &[u8], path: &[u8], base: usize, system: &mut S) -> Naming
+fn give_free_name<S: Folders>(
+    modes: Modes,
+    part: &[u8],
+    path: &[u8],
+    base: usize,
+    system: &mut S,
+) -> Naming
     requires { base ≤ length path.now }
-    ensures { spec.GivesFreeName S.may_do S.folders_do part.now path.now base system.old result system.new }
+    ensures { spec.GivesFreeName S.may_do S.folders_do (modes_as modes.entry) part.now path.now base system.old result
+        system.new }
 {
     let place = place_at(path, base, system);
     if place.is_free() {
-        give_name(part, path, base, system)
+        give_name(modes, part, path, base, system)
     } else {
         Naming::NotFree(place)
     }
@@ -149,7 +158,7 @@ fn place_part<S: Folders, E: DeviceOut>(
         (manner_of manner.entry) name.now path.now fate errors.old system.old result errors.new system.new }
 {
     let base = manner.output.len() + 1;
-    let naming = give_free_name(manner.part, path, base, system);
+    let naming = give_free_name(manner.modes, manner.part, path, base, system);
     let is_copied = is_copy(naming, manner.part, path, system);
     clear_part(naming, manner.part, system);
     tell_naming(name, naming, fate, is_copied, errors)
@@ -175,7 +184,7 @@ fn name_by<S: Folders, E: DeviceOut>(
         },
         None => {
             remove_part(manner.part, system);
-            without_name(tell_place(name, Place::Taken, false, errors))
+            without_name(tell_place(name, Place::Barred, false, errors))
         }
     }
 }
@@ -214,8 +223,8 @@ fn fill_by_instance<S: Folders, E: DeviceOut>(
         (job_of job.now) (manner_of manner.entry) name.now input output errors.old system.old result errors.new
         system.new }
 {
-    let ending = fill(job, input, output, system);
-    let fate = tell_ending(name, ending, errors);
+    let ended = fill(job, input, output, system);
+    let fate = tell_ended(name, ended, errors);
     if fate.is_written() {
         return name_part(manner, name, fate, system, errors);
     }

@@ -4,7 +4,8 @@
 //! - `begin` looks at the folders before anything is made, and answers `Begun`, or a `Refusal`.
 //! - `do_name` does the file of a name in its `Manner`: a part is filled by the job of one file, and gets the name of
 //!   the output, as `Naming` says, only once it is whole. `Done` has the `Fate` of the name.
-//! - `place_at` says whether an output may be made at a path, and `make_way` makes the folders on its way.
+//! - `place_at` says whether an output may be made at a path, and `make_way` makes the folders on its way, of
+//!   the `Modes` of the run.
 //! - `put_row` writes a row of the manifest, `Tally` counts them, and `is_of` says which names are of a share.
 #![tactic(auto)]
 
@@ -13,6 +14,7 @@ mod fate;
 mod file;
 mod instance;
 mod lines;
+mod modes;
 mod part;
 mod place;
 mod program;
@@ -25,9 +27,10 @@ mod task;
 mod tree;
 mod work;
 
-pub use beginning::{Begun, Refusal, begin};
+pub use beginning::{Begun, Refusal, Spared, begin};
 pub use fate::{Fate, fate_of, text_of};
 pub use file::{Done, InstanceName, Manner, do_name};
+pub use modes::{Modes, NoMode};
 pub use part::{Naming, NoPart};
 pub use place::{NotMade, OutputPath, Place, make_way, path_in, place_at};
 pub use program::obey_tree;

@@ -9,9 +9,9 @@ use crate::fate::Fate;
 use crate::place::Place;
 use crate::task::NoDays;
 use dcm_base::{DeviceOut, Stop, Watched, WriteFailed};
-use dcm_cli::ending::{Ending, Verdict};
+use dcm_cli::ending::{Ended, Ending, Verdict};
 use dcm_editor::MOST_EDITS;
-use dcm_names::{put_fault, put_text, put_unplaced, put_unread};
+use dcm_names::{put_emptied, put_fault, put_text, put_unplaced, put_unread};
 
 /// Tells a text of a name.
 pub fn tell_text<E: DeviceOut>(name: &[u8], text: &[u8], errors: &mut Watched<E>)
@@ -105,7 +105,7 @@ fn tell_verdict<E: DeviceOut>(name: &[u8], verdict: Verdict, errors: &mut Watche
 }
 
 /// Tells how the run over a file ended, and answers what became of it, once its output has its name.
-pub fn tell_ending<E: DeviceOut>(name: &[u8], ending: Ending, errors: &mut Watched<E>) -> Fate
+fn tell_ending<E: DeviceOut>(name: &[u8], ending: Ending, errors: &mut Watched<E>) -> Fate
     ensures line { calls.Reports E.DeviceOut errors.old errors.new (spec.ending_lines name.now ending) }
     ensures fate { result ≡ spec.ending_fate ending }
 {
@@ -117,6 +117,55 @@ pub fn tell_ending<E: DeviceOut>(name: &[u8], ending: Ending, errors: &mut Watch
             Fate::Unwritten
         }
     }
+}
+
+/// What became of a file by what the work on it came to.
+fn verdict_fate(verdict: Verdict) -> Fate
+    ensures { result ≡ spec.verdict_fate verdict }
+{
+    match verdict {
+        Verdict::Done { unplaced } => done_fate(unplaced),
+        Verdict::PixelsMayShow => Fate::Pixels,
+        Verdict::Refused(_) | Verdict::RefusedLine(_) => Fate::Refused,
+    }
+}
+
+/// What became of a file by how the run over it ended.
+fn ending_fate(ending: Ending) -> Fate
+    ensures { result ≡ spec.ending_fate ending }
+{
+    match ending {
+        Ending::Worked(verdict) => verdict_fate(verdict),
+        Ending::Unread(_) => Fate::Unread,
+        Ending::Output => Fate::Unwritten,
+    }
+}
+
+/// Writes what is remarked of a file, unless its output failed.
+fn put_remarks<E: DeviceOut>(
+    name: &[u8],
+    ended: Ended,
+    errors: &mut Watched<E>,
+) -> Result<(), WriteFailed>
+    ensures { Wrote E.DeviceOut errors.old errors.new (spec.remarks_told name.now ended.ending ended.remarks) result }
+{
+    match ended.ending {
+        Ending::Output => Ok(()),
+        Ending::Worked(_) | Ending::Unread(_) => put_emptied(name, ended.remarks.emptied, errors),
+    }
+}
+
+/// Tells what is remarked of a file and how the run over it ended, and answers what became of it, once its output has
+/// its name. After a line that failed no other is tried.
+pub fn tell_ended<E: DeviceOut>(name: &[u8], ended: Ended, errors: &mut Watched<E>) -> Fate
+    ensures line { calls.Reports E.DeviceOut errors.old errors.new
+        (spec.ended_lines name.now ended.ending ended.remarks) }
+    ensures fate { result ≡ spec.ending_fate ended.ending }
+{
+    if put_remarks(name, ended, errors).is_err() {
+        return ending_fate(ended.ending);
+    }
+    tell_ending(name, ended.ending, errors)
 }
 
 /// Tells why there are no days by which the dates of a file are moved, and answers what became of it.
@@ -149,9 +198,9 @@ pub fn tell_place<E: DeviceOut>(
         Place::There if continues => Fate::There,
         Place::There => {
             tell_text(name, b"output is there already", errors);
-            Fate::Occupied
+            Fate::Taken
         }
-        Place::Taken | Place::Free => {
+        Place::Barred | Place::Free => {
             tell_text(name, b"output cannot be opened", errors);
             Fate::Unwritten
         }

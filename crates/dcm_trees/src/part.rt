@@ -3,21 +3,23 @@ ghost use Rattle.std.specs.Prelude.{◌≡◌, ◌≢◌, ◌≤◌, ◌+◌, le
 ghost use Rattle.dcm_cli.specs.Calls as calls;
 ghost use Rattle.dcm_words.specs.Plans.{job_of};
 ghost use Rattle.dcm_trees.specs.Manner.{manner_of};
+ghost use Rattle.dcm_trees.specs.Modes.{modes_as};
 ghost use Rattle.dcm_trees.specs.Opening.{OpensFile};
 ghost use Rattle.dcm_trees.specs.Part as spec;
 ghost use Rattle.dcm_trees.specs.World.{world};
 
 use crate::fate::Fate;
 use crate::file::Manner;
-use crate::lines::{tell_ending, tell_place, tell_text};
+use crate::lines::{tell_ended, tell_place, tell_text};
+use crate::modes::Modes;
 use crate::place::{Place, make_way, place_at, wants_memory, was_there};
 use crate::progress::Stop;
 use dcm_base::{DeviceOut, Watched};
 use dcm_cli::Job;
-use dcm_cli::ending::Ending;
+use dcm_cli::ending::{Ended, Ending, Verdict};
 use dcm_cli::run::finish;
 use dcm_files::{FileKind, Folders, System};
-use std::str;
+use std::{io, str};
 
 /// Why no part is there that could be written.
 #[derive(Clone, Copy, Debug, PartialEq, Eq)]
@@ -97,22 +99,36 @@ pub(crate) fn remove_part<S: System>(part: &[u8], system: &mut S)
     let _ = system.remove(text);
 }
 
+/// How a job ended, after its output was closed: where all was done, bytes that were lost then are a failure of the
+/// output.
+fn after_closing(ending: Ending, closing: &io::Result<()>) -> Ending
+    ensures { result ≡ spec.after_closing ending closing.now }
+{
+    match ending {
+        Ending::Worked(Verdict::Done { .. }) if closing.is_err() => Ending::Output,
+        _ => ending,
+    }
+}
+
 /// Does a job from a file into the part, and gives both back.
 pub(crate) fn fill<S: System>(
     job: &Job,
     input: S::Input,
     output: S::Output,
     system: &mut S,
-) -> Ending
-    ensures { spec.Fills S.may_do S.Input.DeviceIn S.Output.DeviceOut (job_of job.now) input output system.old result
+) -> Ended
+    ensures { spec.FillsOn S.may_do S.Input.DeviceIn S.Output.DeviceOut (job_of job.now) input output system.old result
         system.new }
 {
     let mut input = Watched::new(input);
     let mut out = Watched::new(output);
-    let ending = finish(job, &mut input, &mut out);
-    system.close(out.into_device());
+    let ended = finish(job, &mut input, &mut out);
+    let closing = system.close(out.into_device());
     system.release(input.into_device());
-    ending
+    Ended {
+        remarks: ended.remarks,
+        ending: after_closing(ended.ending, &closing),
+    }
 }
 
 /// Moves the part to the name of its output.
@@ -157,11 +173,18 @@ fn give_second_name<S: Folders>(part: &[u8], path: &[u8], base: usize, system: &
 }
 
 /// Makes the folders on the way to an output, and gives it its name.
-pub(crate) fn give_name<S: Folders>(part: &[u8], path: &[u8], base: usize, system: &mut S) -> Naming
+pub(crate) fn give_name<S: Folders>(
+    modes: Modes,
+    part: &[u8],
+    path: &[u8],
+    base: usize,
+    system: &mut S,
+) -> Naming
     requires { base ≤ length path.now }
-    ensures { spec.GivesName S.may_do S.folders_do part.now path.now base system.old result system.new }
+    ensures { spec.GivesName S.may_do S.folders_do (modes_as modes.entry) part.now path.now base system.old result
+        system.new }
 {
-    match make_way(path, base, system) {
+    match make_way(path, base, modes, system) {
         Ok(()) => give_second_name(part, path, base, system),
         Err(_) => Naming::Failed,
     }
@@ -220,7 +243,7 @@ fn name_output<S: Folders, E: DeviceOut>(
         errors.old system.old result errors.new system.new }
 {
     let base = manner.output.len() + 1;
-    let naming = give_name(manner.part, path, base, system);
+    let naming = give_name(manner.modes, manner.part, path, base, system);
     clear_part(naming, manner.part, system);
     tell_naming(name, naming, fate, manner.continues, errors)
 }
@@ -242,8 +265,8 @@ pub(crate) fn fill_and_name<S: Folders, E: DeviceOut>(
         (job_of job.now) (manner_of manner.entry) name.now path.now input output errors.old system.old result
         errors.new system.new }
 {
-    let ending = fill(job, input, output, system);
-    let fate = tell_ending(name, ending, errors);
+    let ended = fill(job, input, output, system);
+    let fate = tell_ended(name, ended, errors);
     if fate.is_written() {
         return name_output(manner, name, path, fate, system, errors);
     }

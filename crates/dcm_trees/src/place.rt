@@ -1,8 +1,10 @@
 // The name of an output in the tree of outputs: what is there, and the folders on its way.
 ghost use Rattle.std.specs.Prelude.{◌≡◌, ◌≢◌, ◌≤◌, length, option_map, true, false};
 ghost use Rattle.std.specs.IoError.{error_kind};
+ghost use Rattle.dcm_trees.specs.Modes.{modes_as};
 ghost use Rattle.dcm_trees.specs.Place as spec;
 
+use crate::modes::{Modes, NoMode, new_mode};
 use arrayvec::ArrayVec;
 use dcm_files::{Folders, Found, FoundKind, Links};
 use dcm_walk::{MOST_OF_PATH, slash};
@@ -23,7 +25,7 @@ pub enum Place {
     /// A regular file.
     There,
     /// Something else, or it cannot be looked at.
-    Taken,
+    Barred,
 }
 
 /// The folders on the way of an output.
@@ -116,7 +118,7 @@ fn place_of(seen: Result<Option<Found>, Unseen>) -> Place
     match seen {
         Ok(None) => Place::Free,
         Ok(Some(found)) if found.kind == FoundKind::File => Place::There,
-        _ => Place::Taken,
+        _ => Place::Barred,
     }
 }
 
@@ -127,7 +129,7 @@ pub fn place_at<S: Folders>(path: &[u8], base: usize, system: &mut S) -> Place
 {
     match look_along(path, base, system) {
         Way::Missing => Place::Free,
-        Way::Blocked => Place::Taken,
+        Way::Blocked => Place::Barred,
         Way::Whole => {
             let seen = look(path, system);
             place_of(seen)
@@ -159,14 +161,14 @@ fn is_folder<S: Folders>(path: &[u8], system: &mut S) -> bool
     end_of_way(seen).is_none()
 }
 
-/// Makes a folder, unless one is there.
-fn have_folder<S: Folders>(path: &[u8], system: &mut S) -> Result<(), NotMade>
-    ensures { spec.HasFolder S.folders_do path.now system.old result system.new }
+/// Makes a folder of this mode, unless one is there.
+fn make_new<S: Folders>(path: &[u8], mode: u32, system: &mut S) -> Result<(), NotMade>
+    ensures { spec.MakesNew S.folders_do path.now mode system.old result system.new }
 {
     let Ok(text) = str::from_utf8(path) else {
         return Err(NotMade);
     };
-    match system.make_folder(text) {
+    match system.make_folder(text, mode) {
         Ok(()) => Ok(()),
         Err(e) if was_there(&e) => {
             if is_folder(path, system) {
@@ -179,11 +181,36 @@ fn have_folder<S: Folders>(path: &[u8], system: &mut S) -> Result<(), NotMade>
     }
 }
 
-/// Makes the folders on the way to a path that are not there. Fails where what is there is no folder, a link to one
-/// too, or where the system makes none.
-pub fn make_way<S: Folders>(path: &[u8], base: usize, system: &mut S) -> Result<(), NotMade>
+/// Makes a folder, unless one is there. So many bytes of its path are those of the folder of the outputs.
+fn have_folder<S: Folders>(
+    path: &[u8],
+    base: usize,
+    modes: Modes,
+    system: &mut S,
+) -> Result<(), NotMade>
     requires { base ≤ length path.now }
-    ensures { spec.MakesWay S.folders_do path.now base system.old result system.new }
+    ensures { spec.HasFolder S.folders_do (modes_as modes.entry) path.now base system.old result system.new }
+{
+    if is_folder(path, system) {
+        return Ok(());
+    }
+    let (_, name) = path.split_at(base);
+    match new_mode(modes, name, system) {
+        Ok(mode) => make_new(path, mode, system),
+        Err(NoMode) => Err(NotMade),
+    }
+}
+
+/// Makes the folders on the way to a path that are not there, each of its mode. Fails where what is there is no folder,
+/// a link to one too, where the mode of one is not found, or where the system makes none.
+pub fn make_way<S: Folders>(
+    path: &[u8],
+    base: usize,
+    modes: Modes,
+    system: &mut S,
+) -> Result<(), NotMade>
+    requires { base ≤ length path.now }
+    ensures { spec.MakesWay S.folders_do (modes_as modes.entry) path.now base system.old result system.new }
 {
     let mut at = base;
     loop {
@@ -192,7 +219,7 @@ pub fn make_way<S: Folders>(path: &[u8], base: usize, system: &mut S) -> Result<
             return Ok(());
         };
         let (folder, _) = path.split_at(at + length);
-        have_folder(folder, system)?;
+        have_folder(folder, base, modes, system)?;
         at += length + 1;
     }
 }

@@ -1,5 +1,5 @@
 // Words that ask for a run over a tree, and the exit status.
-ghost use Rattle.std.specs.Prelude.{◌≡◌, ◌≤◌, map};
+ghost use Rattle.std.specs.Prelude.{◌≡◌, ◌≤◌, map, Some};
 ghost use Rattle.dcm_cli.specs.Status as statuses;
 ghost use Rattle.dcm_tree_words.specs.Plans.{tree_as};
 ghost use Rattle.dcm_tree_words.specs.Trees as words_spec;
@@ -7,13 +7,14 @@ ghost use Rattle.dcm_trees.specs.Program as spec;
 ghost use Rattle.dcm_trees.specs.Task.{task_of};
 ghost use Rattle.dcm_trees.specs.World.{world};
 
+use crate::modes::modes_of;
 use crate::run::TreeRun;
 use crate::task::Task;
 use crate::tree::do_tree;
 use dcm_base::{DeviceOut, Watched};
 use dcm_cli::key::take_key;
 use dcm_cli::{Deidentify, Job, Usage, tell, tell_no_key, tell_unopened};
-use dcm_files::{Folders, System, Unopened, unopened};
+use dcm_files::{FileKind, Folders, System, Unopened, unopened};
 use dcm_tree_words::{TreePlan, tree_plan, words_of_one};
 use std::alloc::Global;
 
@@ -21,11 +22,12 @@ use std::alloc::Global;
 fn run_task<S: Folders, E: DeviceOut>(
     plan: &TreePlan,
     task: Task,
+    key: Option<FileKind>,
     system: &mut S,
     errors: &mut Watched<E>,
 ) -> u8
     ensures runs { spec.RunsTask (world S.may_do S.folders_do S.Input.DeviceIn S.Output.DeviceOut E.DeviceOut)
-        (tree_as plan.now) (task_of task.entry) errors.old system.old result errors.new system.new }
+        (tree_as plan.now) (task_of task.entry) key errors.old system.old result errors.new system.new }
     ensures within { result ≤ statuses.MEMORY }
 {
     let output = match system.stdout() {
@@ -34,12 +36,14 @@ fn run_task<S: Folders, E: DeviceOut>(
     };
     let run = TreeRun {
         task,
+        key,
         output: plan.planned.output,
         options: plan.options,
+        modes: modes_of(plan.source, plan.options.keeps_names),
     };
     let manifest = Watched::new(output.device);
     let (status, manifest) = do_tree(run, plan.source, manifest, system, errors);
-    system.close(manifest.into_device());
+    let _ = system.close(manifest.into_device());
     status
 }
 
@@ -47,19 +51,20 @@ fn run_task<S: Folders, E: DeviceOut>(
 fn run_keyed<S: Folders, E: DeviceOut>(
     plan: &TreePlan,
     what: Deidentify,
+    key: FileKind,
     system: &mut S,
     errors: &mut Watched<E>,
 ) -> u8
     ensures runs { spec.RunsTask (world S.may_do S.folders_do S.Input.DeviceIn S.Output.DeviceOut E.DeviceOut)
         (tree_as plan.now) (spec.keyed_task plan.now.planned.days_by_key what.options what.reports what.key.items)
-        errors.old system.old result errors.new system.new }
+        (Some key) errors.old system.old result errors.new system.new }
     ensures within { result ≤ statuses.MEMORY }
 {
     if plan.planned.days_by_key {
-        return run_task(plan, Task::ByDays(&what), system, errors);
+        return run_task(plan, Task::ByDays(&what), Some(key), system, errors);
     }
     let job = Job::Deidentify(what);
-    run_task(plan, Task::Same(&job), system, errors)
+    run_task(plan, Task::Same(&job), Some(key), system, errors)
 }
 
 /// Reads the key of a run over a tree, where there is one, and does the run.
@@ -74,7 +79,7 @@ fn run_deidentify<S: Folders, E: DeviceOut>(
     ensures within { result ≤ statuses.MEMORY }
 {
     let Some(path) = plan.planned.key else {
-        return run_task(plan, Task::Same(&plan.planned.job), system, errors);
+        return run_task(plan, Task::Same(&plan.planned.job), None, system, errors);
     };
     match take_key(system, path) {
         Ok(read) => {
@@ -83,7 +88,7 @@ fn run_deidentify<S: Folders, E: DeviceOut>(
                 reports: what.reports,
                 key: read.bytes,
             };
-            run_keyed(plan, keyed, system, errors)
+            run_keyed(plan, keyed, read.kind, system, errors)
         }
         Err(cause) => tell_no_key(cause, errors),
     }
@@ -101,7 +106,7 @@ fn run_plan<S: Folders, E: DeviceOut>(
 {
     match &plan.planned.job {
         Job::Deidentify(what) => run_deidentify(plan, what, system, errors),
-        _ => run_task(plan, Task::Same(&plan.planned.job), system, errors),
+        _ => run_task(plan, Task::Same(&plan.planned.job), None, system, errors),
     }
 }
 

@@ -7,6 +7,7 @@ ghost use Rattle.dcm_trees.specs.Work.{progress};
 
 use crate::beginning::Refusal;
 use crate::file::Manner;
+use crate::modes::Modes;
 use crate::progress::{Shared, Stop, Work};
 use crate::row::put_header;
 use crate::tally::{Tally, put_counts};
@@ -14,6 +15,7 @@ use crate::task::Task;
 use arrayvec::ArrayVec;
 use dcm_base::{DeviceOut, Watched, WriteFailed, flush_out};
 use dcm_cli::status::{DEVICE, DONE, MEMORY};
+use dcm_files::FileKind;
 use dcm_names::{put_at_once, put_text, put_unread};
 use dcm_tree_words::TreeOptions;
 use dcm_walk::{ListEnd, PART, Stopped};
@@ -55,11 +57,18 @@ fn tell_line<E: DeviceOut>(text: &[u8], errors: &mut Watched<E>)
     let _ = put_at_once(&[b"dcmtools: ".as_slice(), text, b"\n".as_slice()], errors);
 }
 
-/// Tells that another run's part is there.
+/// Tells that something is at the path of the part.
 fn tell_part_there<E: DeviceOut>(part: &[u8], errors: &mut Watched<E>)
     ensures { calls.Reports E.DeviceOut errors.old errors.new (spec.part_line part.now) }
 {
     let _ = put_text(part, b"another run is at work, or was cut off", errors);
+}
+
+/// Tells that another run writes the part.
+fn tell_at_work<E: DeviceOut>(part: &[u8], errors: &mut Watched<E>)
+    ensures { calls.Reports E.DeviceOut errors.old errors.new (spec.work_line part.now) }
+{
+    let _ = put_text(part, b"another run is at work", errors);
 }
 
 /// Tells why a run is not begun.
@@ -73,6 +82,7 @@ pub fn tell_refusal<E: DeviceOut>(refusal: Refusal, part: &[u8], errors: &mut Wa
         Refusal::Same => tell_line(b"output is the input", errors),
         Refusal::OutputWithin => tell_line(b"output is within the input", errors),
         Refusal::InputWithin => tell_line(b"input is within the output", errors),
+        Refusal::AtWork => tell_at_work(part, errors),
         Refusal::PartThere => tell_part_there(part, errors),
         Refusal::NotEmpty => tell_line(b"output is not empty", errors),
     }
@@ -98,7 +108,7 @@ fn tell_end<E: DeviceOut>(
             let _ = put_unread(list, read, errors);
         }
         End::Stopped(Stop::Manifest) => tell_line(b"output failed", errors),
-        End::Stopped(Stop::PartThere) => tell_part_there(part, errors),
+        End::Stopped(Stop::PartThere) => tell_at_work(part, errors),
         End::Stopped(Stop::Memory) => {
             tell_line(b"out of memory", errors);
             return MEMORY;
@@ -121,9 +131,13 @@ fn tell_counts<E: DeviceOut>(shows: bool, tally: Tally, errors: &mut Watched<E>)
 pub struct TreeRun<'a> {
     /// What is done with each file.
     pub task: Task<'a>,
+    /// What the key was read of, where there is one.
+    pub key: Option<FileKind>,
     /// The folder of the outputs.
     pub output: &'a [u8],
     pub options: TreeOptions,
+    /// The modes of folders that are made.
+    pub modes: Modes<'a>,
 }
 
 /// What all names of a run share.
@@ -137,6 +151,7 @@ pub(crate) fn shared_of<'a>(run: TreeRun<'a>, part: &'a [u8]) -> Shared<'a>
             part,
             continues: run.options.continues,
             keeps_names: run.options.keeps_names,
+            modes: run.modes,
         },
         part: run.options.part,
         shows_counts: run.options.counts,

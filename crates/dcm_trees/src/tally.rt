@@ -48,7 +48,7 @@ impl Tally {
                 ..self
             };
         }
-        if fate.is_there() {
+        if fate.was_done() {
             return Tally {
                 there: next(self.there),
                 ..self

@@ -5,7 +5,7 @@ ghost use Rattle.dcm_trees.specs.Tree as spec;
 ghost use Rattle.dcm_tree_words.specs.Plans.{source_as};
 ghost use Rattle.dcm_trees.specs.World.{world};
 
-use crate::beginning::{Begun, CURRENT, Refusal, begin};
+use crate::beginning::{Begun, CURRENT, Refusal, Spared, begin};
 use crate::place::path_in;
 use crate::progress::Work;
 use crate::run::{
@@ -13,11 +13,14 @@ use crate::run::{
 };
 use dcm_base::{DeviceOut, Watched};
 use dcm_cli::status::DEVICE;
-use dcm_files::{Folders, open_input};
+use dcm_files::{FileKind, Folders, open_input};
 use dcm_names::put_unopened;
 use dcm_tree_words::Source;
 use dcm_walk::{ListEnd, MOST_OF_PATH, Stopped, walk_folder, walk_list};
 use std::str;
+
+/// The word for standard input.
+const STANDARD: &[u8] = b"-";
 
 /// Opens a folder.
 fn open_at<S: Folders>(path: &[u8], system: &mut S) -> Option<S::Folder>
@@ -159,6 +162,33 @@ fn refuse<W: DeviceOut, E: DeviceOut>(
     (tell_refusal(refusal, part.as_slice(), errors), manifest)
 }
 
+/// What a run over a folder reads beside its inputs.
+fn spared_of(run: TreeRun) -> Spared
+    ensures { result ≡ spec.spared_of run.entry }
+{
+    Spared {
+        key: run.key,
+        list: None,
+    }
+}
+
+/// What a list is, where it is no standard input.
+fn kind_of_list(list: &[u8], kind: FileKind) -> Option<FileKind>
+    ensures { result ≡ spec.kind_of_list list.now kind }
+{
+    if list == STANDARD { None } else { Some(kind) }
+}
+
+/// What a run over the names of a list reads beside its inputs.
+fn spared_with(run: TreeRun, list: &[u8], kind: FileKind) -> Spared
+    ensures { result ≡ spec.spared_with run.entry list.now kind }
+{
+    Spared {
+        key: run.key,
+        list: kind_of_list(list, kind),
+    }
+}
+
 /// Does the files of a folder that is open.
 fn do_opened<S: Folders, W: DeviceOut, E: DeviceOut>(
     run: TreeRun,
@@ -176,7 +206,16 @@ fn do_opened<S: Folders, W: DeviceOut, E: DeviceOut>(
 {
     let part = part_name(run.options.part.number);
     let continues = run.options.continues;
-    match begin(path, false, run.output, part.as_slice(), continues, system) {
+    match begin(
+        path,
+        false,
+        run.output,
+        part.as_slice(),
+        continues,
+        spared_of(run),
+        system,
+        errors,
+    ) {
         Ok(begun) => visit_folder(run, path, begun, folder, manifest, system, errors),
         Err(refusal) => {
             system.close_folder(folder);
@@ -211,6 +250,7 @@ fn do_folder<S: Folders, W: DeviceOut, E: DeviceOut>(
 fn do_names<S: Folders, W: DeviceOut, E: DeviceOut>(
     run: TreeRun,
     list: &[u8],
+    kind: FileKind,
     input: &mut Watched<S::Input>,
     manifest: Watched<W>,
     system: &mut S,
@@ -218,7 +258,7 @@ fn do_names<S: Folders, W: DeviceOut, E: DeviceOut>(
 ) -> (u8, Watched<W>)
     ensures does { spec.DoesNames
         (world S.may_do S.folders_do S.Input.DeviceIn S.Output.DeviceOut E.DeviceOut) W.DeviceOut run.entry list.now
-        input.old manifest errors.old system.old result.0 result.1 errors.new system.new input.new }
+        kind input.old manifest errors.old system.old result.0 result.1 errors.new system.new input.new }
     ensures within { result.0 ≤ statuses.MEMORY }
 {
     let part = part_name(run.options.part.number);
@@ -229,7 +269,9 @@ fn do_names<S: Folders, W: DeviceOut, E: DeviceOut>(
         run.output,
         part.as_slice(),
         continues,
+        spared_with(run, list, kind),
         system,
+        errors,
     ) {
         Ok(begun) => visit_list(run, list, begun, input, manifest, system, errors),
         Err(refusal) => refuse(run, refusal, manifest, errors),
@@ -252,7 +294,7 @@ fn do_list<S: Folders, W: DeviceOut, E: DeviceOut>(
     match open_input(system, list) {
         Ok(opened) => {
             let mut input = Watched::new(opened.device);
-            let done = do_names(run, list, &mut input, manifest, system, errors);
+            let done = do_names(run, list, opened.kind, &mut input, manifest, system, errors);
             system.release(input.into_device());
             done
         }

@@ -1,7 +1,8 @@
 -- A digest is of bytes, so the number of its UUID has at most 128 bits.
-use Rattle.std.proofs.Common.{ℕ, zero, suc, ◌^◌, ◌/◌, ◌%◌, ◌<◌, List, [], ◌∷◌, ◌++◌, slice_index, arith, ◌≡◌, length, ◌*◌, refl, length-append}
+use Rattle.std.proofs.Common.{ℕ, zero, suc, ◌^◌, ◌<◌, List, [], ◌∷◌, ◌++◌, slice_index, arith, ◌≡◌, length, ◌*◌, refl, length-append}
 use Rattle.std.specs.Int.{w32, byte_at, bytes_high_first, to_be_bytes}
 use Rattle.sha2.specs.Sha256.{digest_bytes, sha256}
+use Rattle.dcm_lemmas.proofs.Numbers.{byte_below}
 use Rattle.dcm_base.specs.Tables.Number.{AreBytes}
 use Rattle.dcm_uid.specs.Hmac.{hmac_sha256}
 use Rattle.dcm_uid.specs.Uid.{uuid_number}
@@ -17,16 +18,9 @@ joined_are : (xs ys : List ℕ) → AreBytes xs → AreBytes ys → AreBytes (xs
 joined_are [] ys h g = g
 joined_are (x ∷ xs) ys h g = more_are x (xs ++ ys) (h 0) (joined_are xs ys (λ i. h (suc i)) g)
 
-byte_is : (i n : ℕ) → byte_at i n < 256
-byte_is zero n = omega arith
-byte_is (suc i) n = rem_is (n / 256 ^ suc i)
-  where
-    rem_is : (m : ℕ) → m % 256 < 256
-    rem_is m = omega arith
-
 number_is : (k n : ℕ) → AreBytes (bytes_high_first k n)
 number_is zero n = none_are
-number_is (suc k) n = more_are (byte_at k n) (bytes_high_first k n) (byte_is k n) (number_is k n)
+number_is (suc k) n = more_are (byte_at k n) (bytes_high_first k n) (byte_below k n) (number_is k n)
 
 digest_is : (h : List ℕ) (n : ℕ) → AreBytes (digest_bytes h n)
 unfolding digest_bytes

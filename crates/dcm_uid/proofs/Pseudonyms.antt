@@ -110,6 +110,14 @@ messages_apart p q e = heads (ap first e)
     heads : (let p : ℕ = 80 in p ≡ 100) → ⊥
     heads e = omega (arith, e)
 
+pub pseudonyms_by_code : (key value : List ℕ) → patient value ≢ [] → pseudonym key value ≡ codes "P" ++ flat_map hex_byte (take 10 (hmac_sha256 key (codes "PatientID\\" ++ patient value)))
+unfolding pseudonym pseudonym_of
+pseudonyms_by_code key value some = of_patient (patient value) some
+  where
+    of_patient : (p : List ℕ) → p ≢ [] → pseudonym_of key p ≡ codes "P" ++ flat_map hex_byte (take 10 (hmac_sha256 key (codes "PatientID\\" ++ p)))
+    of_patient [] none = absurd (none refl)
+    of_patient (b ∷ bs) none = refl
+
 pub days_by_code : (key p : List ℕ) → days key p ≡ negsuc (from_be_bytes w64 (take 8 (hmac_sha256 key (codes "days\\" ++ p))) % 3652)
 unfolding days
 days_by_code key p = refl

@@ -1,9 +1,9 @@
 //! Laws of the definitions. Each function takes nothing and makes no call: its contract is the law.
-ghost use Rattle.std.specs.Prelude.{◌≡◌, ◌≢◌, ℕ, ◌%◌, ℤ, negsuc, ◌≤ℤ◌, true, List, [], ◌++◌, codes, take};
+ghost use Rattle.std.specs.Prelude.{◌≡◌, ◌≢◌, ℕ, ◌%◌, ℤ, negsuc, ◌≤ℤ◌, true, List, [], ◌++◌, codes, take, flat_map};
 ghost use Rattle.std.specs.Int.{w64, from_be_bytes};
 ghost use Rattle.dcm_uid.specs.Hmac.{hmac_sha256};
 ghost use Rattle.dcm_uid.specs.Uid.{IsNewUid, is_one_uid, new_uid};
-ghost use Rattle.dcm_uid.specs.Pseudonym.{DAYS, IsPseudonym, PSEUDONYM, days, message, patient, pseudonym};
+ghost use Rattle.dcm_uid.specs.Pseudonym.{DAYS, IsPseudonym, PSEUDONYM, days, hex_byte, message, patient, pseudonym};
 
 /// Each new UID has the form of one: the root 2.25, and at most 39 digits without leading zeros.
 pub fn new_uids_are_uids()
@@ -11,11 +11,14 @@ pub fn new_uids_are_uids()
 {}
 
 /// The pseudonym of a PatientID is a function of the key and of the patient whom it names: nothing where it names none,
-/// else P and twenty hexadecimal digits.
+/// else P and twenty hexadecimal digits. These are those of the first ten bytes of the HMAC-SHA-256 of `PatientID\` and
+/// the patient, under the key.
 pub fn pseudonyms_agree()
     ensures agree { (key one other : List ℕ) → patient one ≡ patient other → pseudonym key one ≡ pseudonym key other }
     ensures none { (key value : List ℕ) → patient value ≡ [] → pseudonym key value ≡ [] }
     ensures form { (key value : List ℕ) → patient value ≢ [] → IsPseudonym (pseudonym key value) }
+    ensures by_code { (key value : List ℕ) → patient value ≢ [] → pseudonym key value ≡ codes "P" ++ flat_map hex_byte
+        (take 10 (hmac_sha256 key (codes "PatientID\\" ++ patient value))) }
 {}
 
 /// What is hashed for a pseudonym is never what is hashed for days, and neither is a UID.

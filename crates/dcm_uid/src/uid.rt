@@ -6,6 +6,7 @@ ghost use Rattle.dcm_uid.specs.Uid as spec;
 
 use crate::hmac::{CODE_SIZE, Key};
 use arrayvec::ArrayVec;
+use dcm_bytes::append;
 use dcm_head::without_pads;
 use itoa::Buffer;
 
@@ -52,17 +53,6 @@ fn uuid_number(digest: &[u8; CODE_SIZE]) -> u128
     u128::from_be_bytes(uuid(digest))
 }
 
-/// Appends bytes, for which there is room.
-fn append<const N: usize>(out: &mut ArrayVec<u8, N>, bytes: &[u8])
-    requires { length out.old.items + length bytes.now ≤ N }
-    ensures { out.new.items ≡ out.old.items ++ bytes.now }
-{
-    match out.try_extend_from_slice(bytes) {
-        Ok(()) => (),
-        Err(_) => unreachable!(),
-    }
-}
-
 /// The new UID in place of `b` under a key: `2.25.` and the number of a UUID (PS3.5 B.2).
 pub fn new_uid(key: &Key, b: &[u8]) -> ArrayVec<u8, MOST_OF_NEW>
     ensures value { (k : List ℕ) → IsKey key.now k → result.items ≡ spec.new_uid k b.now }
@@ -72,8 +62,8 @@ pub fn new_uid(key: &Key, b: &[u8]) -> ArrayVec<u8, MOST_OF_NEW>
     let number = uuid_number(&key.hmac(b));
     let mut buffer = Buffer::new();
     let mut uid = ArrayVec::new();
-    append(&mut uid, b"2.25.");
-    append(&mut uid, buffer.format(number).as_bytes());
+    append(b"2.25.", &mut uid);
+    append(buffer.format(number).as_bytes(), &mut uid);
     uid
 }
 
@@ -116,9 +106,9 @@ pub fn new_value(key: &Key, value: &[u8]) -> ArrayVec<u8, MOST_OF_UID>
         return out;
     }
     if is_standard(b) {
-        append(&mut out, b);
+        append(b, &mut out);
     } else {
-        append(&mut out, new_uid(key, b).as_slice());
+        append(new_uid(key, b).as_slice(), &mut out);
     }
     out
 }

@@ -3,3 +3,4 @@ pub mod Limits
 pub mod WordRows
 pub mod ModifyWords
 pub mod PathsApart
+pub mod NamingLemmas

@@ -45,13 +45,13 @@ judged_as words e are_paths is are =
     ap (λ o. elim o [ None ↦ Err (Whole WrongPaths) | Some e ↦ elim (is_path e.input && is_path e.output) [ true ↦ modify_plan_with e | false ↦ Err (Whole WrongPaths) ] ]) is
     ∙ ap (λ b. judged b e) are
 
-both : (a b : Bool) → true ≡ a → true ≡ b → a && b ≡ true
+pub both : (a b : Bool) → true ≡ a → true ≡ b → a && b ≡ true
 both a b p q = rw (← p, ← q) refl
 
-not_first : (a b : Bool) → false ≡ a → a && b ≡ false
+pub not_first : (a b : Bool) → false ≡ a → a && b ≡ false
 not_first a b p = rw (← p) refl
 
-not_second : (a b : Bool) → false ≡ b → a && b ≡ false
+pub not_second : (a b : Bool) → false ≡ b → a && b ≡ false
 not_second true b q = sym q
 not_second false b q = refl
 

@@ -1,42 +1,42 @@
 -- The input and the output among words.
-use Rattle.std.proofs.Common.{◌≡◌, ◌≢◌, ◌==◌, ℕ, suc, ◌-◌, ◌<◌, ◌≤◌, List, [], ◌∷◌, length, get_or, Option, Some, None, Bool, true, false, ◌&&◌, refl, sym, ◌∙◌, ap, subst, arith, Bor}
+use Rattle.std.proofs.Common.{◌≡◌, ◌≢◌, ◌==◌, ℕ, ◌-◌, ◌<◌, ◌≤◌, List, [], ◌∷◌, length, get_or, Option, Some, None, Bool, true, false, ◌&&◌, refl, sym, ◌∙◌, ap, subst, arith, Bor}
 use Rattle.std.specs.Prelude.{if◌then◌else◌}
-use Rattle.std.proofs.lemmas.Bool.Decides.{nat_tests}
+use Rattle.dcm_lemmas.proofs.Numbers.{after_is_not_zero}
+use Rattle.dcm_edits.specs.declared.parse.Settings.{Settings}
+use Rattle.dcm_edits.specs.EditWords.{settings_of}
 use Rattle.dcm_words.specs.declared.words.Paths.{Paths}
 use Rattle.dcm_words.specs.declared.words.Paths.TheVariants as paths
 use Rattle.dcm_words.specs.Plans.{PathsAre}
 use Rattle.dcm_words.specs.Places.{TwoPaths, two_of, paths_at_end}
 use Rattle.dcm_words.specs.Words.{EditWords, is_path, paths_apart}
-use Rattle.dcm_words.proofs.ModifyWords.{texts, words_end, between}
+use Rattle.dcm_words.proofs.ModifyWords.{texts, words_end, between, both, not_first, not_second}
 
 -- ---- among options
 
-some : (n : ℕ) → (suc n == 0) ≡ true → ⊥
-some n p = grind (arith, nat_tests)
+module _ (overwrites : Bool) where
+  abbrev pub AreNot : List (List ℕ) → Type 0
+  AreNot ps = None ≡ two_of ps overwrites
 
-abbrev pub AreNot : List (List ℕ) → Type 0
-AreNot ps = None ≡ two_of ps
+  pub empty_first : (input output : List ℕ) → (length input == 0) ≡ true → AreNot (input ∷ output ∷ [])
+  empty_first [] output p = refl
+  empty_first (c ∷ cs) output p = absurd (after_is_not_zero (length cs) p)
 
-pub empty_first : (input output : List ℕ) → (length input == 0) ≡ true → AreNot (input ∷ output ∷ [])
-empty_first [] output p = refl
-empty_first (c ∷ cs) output p = absurd (some (length cs) p)
+  pub empty_second : (input output : List ℕ) → (length output == 0) ≡ true → AreNot (input ∷ output ∷ [])
+  empty_second [] output p = refl
+  empty_second (c ∷ cs) [] p = refl
+  empty_second (c ∷ cs) (b ∷ bs) p = absurd (after_is_not_zero (length bs) p)
 
-pub empty_second : (input output : List ℕ) → (length output == 0) ≡ true → AreNot (input ∷ output ∷ [])
-empty_second [] output p = refl
-empty_second (c ∷ cs) [] p = refl
-empty_second (c ∷ cs) (b ∷ bs) p = absurd (some (length bs) p)
+  too_many : (ps : List (List ℕ)) → 2 < length ps → AreNot ps
+  too_many [] h = absurd (omega (arith, h))
+  too_many (p ∷ []) h = absurd (omega (arith, h))
+  too_many (p ∷ q ∷ []) h = absurd (omega (arith, h))
+  too_many (p ∷ q ∷ r ∷ ps) h = refl
 
-too_many : (ps : List (List ℕ)) → 2 < length ps → AreNot ps
-too_many [] h = absurd (omega (arith, h))
-too_many (p ∷ []) h = absurd (omega (arith, h))
-too_many (p ∷ q ∷ []) h = absurd (omega (arith, h))
-too_many (p ∷ q ∷ r ∷ ps) h = refl
-
-pub not_two : (p : Paths) (ps : List (List ℕ)) → ((x y : Bor (List ℕ)) → p ≢ paths.Two x y) → PathsAre p ps → AreNot ps
-not_two paths.None ps n are = subst AreNot (sym are) refl
-not_two (paths.One first) ps n are = subst AreNot (sym are) refl
-not_two (paths.Two first second) ps n are = absurd (n first second refl)
-not_two paths.More ps n are = too_many ps are
+  pub not_two : (p : Paths) (ps : List (List ℕ)) → ((x y : Bor (List ℕ)) → p ≢ paths.Two x y) → PathsAre p ps → AreNot ps
+  not_two paths.None ps n are = subst AreNot (sym are) refl
+  not_two (paths.One first) ps n are = subst AreNot (sym are) refl
+  not_two (paths.Two first second) ps n are = absurd (n first second refl)
+  not_two paths.More ps n are = too_many ps are
 
 -- ---- behind edits
 
@@ -45,18 +45,11 @@ few_words [] h = refl
 few_words (w ∷ []) h = refl
 few_words (w ∷ v ∷ ws) h = absurd (omega (arith, h))
 
+abbrev pub with_settings : EditWords → Settings → Option TwoPaths
+with_settings e s = Some (record { input = e.input; output = e.output; overwrites = s.overwrites })
+
 abbrev ends_by : Bool → EditWords → Option TwoPaths
-ends_by b e = if b then Some (record { input = e.input; output = e.output }) else None
-
-both : (a b : Bool) → true ≡ a → true ≡ b → a && b ≡ true
-both a b p q = rw (← p, ← q) refl
-
-not_first : (a b : Bool) → false ≡ a → a && b ≡ false
-not_first a b p = rw (← p) refl
-
-not_second : (a b : Bool) → false ≡ b → a && b ≡ false
-not_second true b q = sym q
-not_second false b q = refl
+ends_by b e = if b then with_settings e (settings_of e.edits) else None
 
 module _ (ws : List (Bor (List ℕ))) (d : Bor (List ℕ)) (h : 2 ≤ length ws) where
   abbrev input : List ℕ

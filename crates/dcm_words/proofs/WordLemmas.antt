@@ -1,36 +1,21 @@
 -- The words of a tool, one after another.
-use Rattle.std.proofs.Common.{◌≡◌, ◌≢◌, ◌==◌, ℕ, ℤ, zero, suc, ◌<◌, ◌+◌, List, [], ◌∷◌, length, map, drop, get_or, Option, None, Some, option_map, Bool, true, false, Result, Ok, Err, refl, sym, ◌∙◌, ap, subst, arith, drop-cons, add-one, Bor}
-use Rattle.std.proofs.lemmas.Bool.Decides.{nat_tests}
+use Rattle.std.proofs.Common.{◌≡◌, ◌≢◌, ◌==◌, ℕ, ℤ, zero, suc, ◌<◌, ◌+◌, List, [], ◌∷◌, ◌++◌, length, map, drop, get_or, Option, None, Some, option_map, Bool, true, false, Result, Ok, Err, refl, sym, ◌∙◌, ap, subst, arith, drop-cons, add-one, Bor}
+use Rattle.dcm_lemmas.proofs.Numbers.{after_is_not_zero}
 use Rattle.dcm_words.specs.declared.usage.Word.{Word}
-use Rattle.dcm_words.specs.declared.usage.Word.TheVariants.{Read, Show, Decode, WholeFile, DataSet, Bare, Target, Limit, Retain, Move, Pseudonyms, PixelsDealt, Key, Accepted, Path, Unknown}
+use Rattle.dcm_words.specs.declared.usage.Word.TheVariants.{Read, Show, Decode, Element, Ways, WholeFile, DataSet, Bare, Target, Limit, Retain, Move, Pseudonyms, PixelsDealt, Key, Overwrite, Accepted, Path, Unknown}
 use Rattle.dcm_words.specs.declared.usage.Move.{Move as Moved}
 use Rattle.dcm_words.specs.declared.usage.Usage.{Usage}
 use Rattle.dcm_words.specs.declared.usage.Usage.TheVariants.{AtWord, Whole}
 use Rattle.dcm_base.specs.declared.fault.WordFault.TheVariants.{UnknownOption, BadOptionValue, WrongPaths}
-use Rattle.dcm_words.specs.Words.{Said, said_with, said_with_value, said_after, and_path, and_move, limit_of, move_of, key_of, Job, plan_with_two}
+use Rattle.dcm_words.specs.Words.{Said, Kind, alone, with_value, unknown, kind, said_with, said_with_value, said_after, and_path, and_move, limit_of, move_of, key_of, Job, plan_with_two}
 use Rattle.dcm_words.specs.declared.words.Paths.{Paths}
 use Rattle.dcm_words.specs.declared.words.Paths.TheVariants as paths
-use Rattle.dcm_words.specs.Plans.{given, value_after, limit_after, move_after, key_after, PathsAre, SaidAs}
+use Rattle.dcm_words.specs.Plans.{given, value_after, limit_after, move_after, key_after, element_after, PathsAre, SaidAs}
 use Rattle.std.specs.Prelude.{IsErrAnd}
 use Rattle.dcm_words.specs.declared.words.Said.{Said as Words}
 
 abbrev texts : List (Bor (List ℕ)) → List (List ℕ)
 texts ws = map (λ w. w.now) ws
-
--- words that go on
-abbrev pub goes : Word → Bool
-goes Unknown = false
-goes Limit = false
-goes Move = false
-goes Key = false
-goes _ = true
-
--- words that want a value
-abbrev wants_value : Word → Bool
-wants_value Limit = true
-wants_value Move = true
-wants_value Key = true
-wants_value _ = false
 
 next_word : (i : ℕ) (ws : List (Bor (List ℕ))) (d : Bor (List ℕ)) → i < length ws → texts (drop i ws) ≡ (get_or ws i d).now ∷ texts (drop (i + 1) ws)
 next_word i ws d h = rw (add-one, drop-cons ws i d)
@@ -45,51 +30,24 @@ behind_one : (i : ℕ) (ws : List (Bor (List ℕ))) → drop 1 (texts (drop i ws
 behind_one i ws = behind_one_more i ws ∙ ap (λ k. texts (drop k ws)) (sym (add-one i))
 
 module _ (read : List ℕ → Word) where
-  one_alone : (n : ℕ) (s : Said) (w : List ℕ) (x : Word) → read w ≡ x → goes x ≡ true → said_after read n s (w ∷ []) ≡ said_after read (suc n) (said_with x w s) []
-  one_alone n s w (Read d) e g = rw (e, said_after) refl
-  one_alone n s w (Show m) e g = rw (e, said_after) refl
-  one_alone n s w Decode e g = rw (e, said_after) refl
-  one_alone n s w WholeFile e g = rw (e, said_after) refl
-  one_alone n s w DataSet e g = rw (e, said_after) refl
-  one_alone n s w (Bare y) e g = rw (e, said_after) refl
-  one_alone n s w (Target y) e g = rw (e, said_after) refl
-  one_alone n s w Limit e g = cc
-  one_alone n s w (Retain o) e g = rw (e, said_after) refl
-  one_alone n s w PixelsDealt e g = rw (e, said_after) refl
-  one_alone n s w Pseudonyms e g = rw (e, said_after) refl
-  one_alone n s w Key e g = cc
-  one_alone n s w Move e g = cc
-  one_alone n s w Accepted e g = rw (e, said_after) refl
-  one_alone n s w Path e g = rw (e, said_after) refl
-  one_alone n s w Unknown e g = cc
+  one_alone : (n : ℕ) (s : Said) (w : List ℕ) → kind (read w) ≡ alone → said_after read n s (w ∷ []) ≡ said_after read (suc n) (said_with (read w) w s) []
+  one_alone n s w k = rw (k, said_after) refl
 
-  one_before : (n : ℕ) (s : Said) (w v : List ℕ) (words : List (List ℕ)) (x : Word) → read w ≡ x → goes x ≡ true → said_after read n s (w ∷ v ∷ words) ≡ said_after read (suc n) (said_with x w s) (v ∷ words)
-  one_before n s w v words (Read d) e g = rw (e, said_after) refl
-  one_before n s w v words (Show m) e g = rw (e, said_after) refl
-  one_before n s w v words Decode e g = rw (e, said_after) refl
-  one_before n s w v words WholeFile e g = rw (e, said_after) refl
-  one_before n s w v words DataSet e g = rw (e, said_after) refl
-  one_before n s w v words (Bare y) e g = rw (e, said_after) refl
-  one_before n s w v words (Target y) e g = rw (e, said_after) refl
-  one_before n s w v words Limit e g = cc
-  one_before n s w v words (Retain o) e g = rw (e, said_after) refl
-  one_before n s w v words PixelsDealt e g = rw (e, said_after) refl
-  one_before n s w v words Pseudonyms e g = rw (e, said_after) refl
-  one_before n s w v words Key e g = cc
-  one_before n s w v words Move e g = cc
-  one_before n s w v words Accepted e g = rw (e, said_after) refl
-  one_before n s w v words Path e g = rw (e, said_after) refl
-  one_before n s w v words Unknown e g = cc
+  one_before : (n : ℕ) (s : Said) (w v : List ℕ) (words : List (List ℕ)) → kind (read w) ≡ alone → said_after read n s (w ∷ v ∷ words) ≡ said_after read (suc n) (said_with (read w) w s) (v ∷ words)
+  one_before n s w v words k = rw (k, said_after) refl
 
-  one_word : (n : ℕ) (s : Said) (w : List ℕ) (words : List (List ℕ)) (x : Word) → read w ≡ x → goes x ≡ true → said_after read n s (w ∷ words) ≡ said_after read (suc n) (said_with x w s) words
-  one_word n s w [] x e g = one_alone n s w x e g
-  one_word n s w (v ∷ words) x e g = one_before n s w v words x e g
+  alone_first : (n : ℕ) (s : Said) (w : List ℕ) (words : List (List ℕ)) → kind (read w) ≡ alone → said_after read n s (w ∷ words) ≡ said_after read (suc n) (said_with (read w) w s) words
+  alone_first n s w [] k = one_alone n s w k
+  alone_first n s w (v ∷ words) k = one_before n s w v words k
+
+  one_word : (n : ℕ) (s : Said) (w : List ℕ) (words : List (List ℕ)) (x : Word) → read w ≡ x → kind x ≡ alone → said_after read n s (w ∷ words) ≡ said_after read (suc n) (said_with x w s) words
+  one_word n s w words x e g = alone_first n s w words (ap kind e ∙ g) ∙ ap (λ y. said_after read (suc n) (said_with y w s) words) e
 
   no_word : (n : ℕ) (s : Said) (w : List ℕ) (words : List (List ℕ)) → read w ≡ Unknown → said_after read n s (w ∷ words) ≡ Err (AtWord UnknownOption n)
   no_word n s w [] e = rw (e, said_after) refl
   no_word n s w (v ∷ words) e = rw (e, said_after) refl
 
-  pub goes_on : (i : ℕ) (ws : List (Bor (List ℕ))) (d : Bor (List ℕ)) (s : Said) (x : Word) → i < length ws → x ≡ read (get_or ws i d).now → goes x ≡ true
+  pub goes_on : (i : ℕ) (ws : List (Bor (List ℕ))) (d : Bor (List ℕ)) (s : Said) (x : Word) → i < length ws → x ≡ read (get_or ws i d).now → kind x ≡ alone
       → said_after read (i + 2) s (texts (drop i ws)) ≡ said_after read (i + 1 + 2) (said_with x (get_or ws i d).now s) (texts (drop (i + 1) ws))
   goes_on i ws d s x h p g =
       let n : suc (i + 2) ≡ i + 1 + 2 = omega arith in
@@ -98,61 +56,25 @@ module _ (read : List ℕ → Word) where
       ∙ ap (λ (m : ℕ). said_after read m (said_with x (get_or ws i d).now s) (texts (drop (i + 1) ws))) n)
 
   -- the word after one that wants a value is that
-  value_alone : (n : ℕ) (s : Said) (w : List ℕ) (x : Word) → read w ≡ x → wants_value x ≡ true → said_after read n s (w ∷ []) ≡ Err (AtWord BadOptionValue n)
-  value_alone n s w Limit e wants = rw (e, said_after) refl
-  value_alone n s w Key e wants = rw (e, said_after) refl
-  value_alone n s w Move e wants = rw (e, said_after) refl
-  value_alone n s w (Read d) e wants = cc
-  value_alone n s w (Show m) e wants = cc
-  value_alone n s w Decode e wants = cc
-  value_alone n s w WholeFile e wants = cc
-  value_alone n s w DataSet e wants = cc
-  value_alone n s w (Bare y) e wants = cc
-  value_alone n s w (Target y) e wants = cc
-  value_alone n s w (Retain o) e wants = cc
-  value_alone n s w PixelsDealt e wants = cc
-  value_alone n s w Pseudonyms e wants = cc
-  value_alone n s w Accepted e wants = cc
-  value_alone n s w Path e wants = cc
-  value_alone n s w Unknown e wants = cc
+  value_alone : (n : ℕ) (s : Said) (w : List ℕ) → kind (read w) ≡ with_value → said_after read n s (w ∷ []) ≡ Err (AtWord BadOptionValue n)
+  value_alone n s w k = rw (k, said_after) refl
 
-  value_bad : (n : ℕ) (s : Said) (w v : List ℕ) (words : List (List ℕ)) (x : Word) → read w ≡ x → wants_value x ≡ true → said_with_value x v s ≡ None → said_after read n s (w ∷ v ∷ words) ≡ Err (AtWord BadOptionValue n)
-  value_bad n s w v words Limit e wants none = rw (e, none, said_after) refl
-  value_bad n s w v words Key e wants none = rw (e, none, said_after) refl
-  value_bad n s w v words Move e wants none = rw (e, none, said_after) refl
-  value_bad n s w v words (Read d) e wants none = cc
-  value_bad n s w v words (Show m) e wants none = cc
-  value_bad n s w v words Decode e wants none = cc
-  value_bad n s w v words WholeFile e wants none = cc
-  value_bad n s w v words DataSet e wants none = cc
-  value_bad n s w v words (Bare y) e wants none = cc
-  value_bad n s w v words (Target y) e wants none = cc
-  value_bad n s w v words (Retain o) e wants none = cc
-  value_bad n s w v words PixelsDealt e wants none = cc
-  value_bad n s w v words Pseudonyms e wants none = cc
-  value_bad n s w v words Accepted e wants none = cc
-  value_bad n s w v words Path e wants none = cc
-  value_bad n s w v words Unknown e wants none = cc
+  -- the next word, by what it comes to
+  abbrev by_value : ℕ → List (List ℕ) → Option Said → Result Said Usage
+  by_value n words None = Err (AtWord BadOptionValue n)
+  by_value n words (Some t) = said_after read (n + 2) t words
 
-  value_good : (n : ℕ) (s t : Said) (w v : List ℕ) (words : List (List ℕ)) (x : Word) → read w ≡ x → wants_value x ≡ true → said_with_value x v s ≡ Some t → said_after read n s (w ∷ v ∷ words) ≡ said_after read (n + 2) t words
-  value_good n s t w v words Limit e wants some = rw (e, some, said_after) refl
-  value_good n s t w v words Key e wants some = rw (e, some, said_after) refl
-  value_good n s t w v words Move e wants some = rw (e, some, said_after) refl
-  value_good n s t w v words (Read d) e wants some = cc
-  value_good n s t w v words (Show m) e wants some = cc
-  value_good n s t w v words Decode e wants some = cc
-  value_good n s t w v words WholeFile e wants some = cc
-  value_good n s t w v words DataSet e wants some = cc
-  value_good n s t w v words (Bare y) e wants some = cc
-  value_good n s t w v words (Target y) e wants some = cc
-  value_good n s t w v words (Retain o) e wants some = cc
-  value_good n s t w v words PixelsDealt e wants some = cc
-  value_good n s t w v words Pseudonyms e wants some = cc
-  value_good n s t w v words Accepted e wants some = cc
-  value_good n s t w v words Path e wants some = cc
-  value_good n s t w v words Unknown e wants some = cc
+  value_is : (n : ℕ) (s : Said) (w v : List ℕ) (words : List (List ℕ)) → kind (read w) ≡ with_value → said_after read n s (w ∷ v ∷ words) ≡ by_value n words (said_with_value (read w) v s)
+  value_is n s w v words k = by_said (said_with_value (read w) v s) refl
+    where
+      by_said : (o : Option Said) → said_with_value (read w) v s ≡ o → said_after read n s (w ∷ v ∷ words) ≡ by_value n words (said_with_value (read w) v s)
+      by_said None e = rw (k, e, said_after) refl
+      by_said (Some t) e = rw (k, e, said_after) refl
 
-  module _ {A : Type 0} (x : Word) (of : List ℕ → Option A) (set : A → Said → Said) (wants : wants_value x ≡ true)
+  value_by : (n : ℕ) (s : Said) (w v : List ℕ) (words : List (List ℕ)) (x : Word) (o : Option Said) → read w ≡ x → kind x ≡ with_value → said_with_value x v s ≡ o → said_after read n s (w ∷ v ∷ words) ≡ by_value n words o
+  value_by n s w v words x o e k is = value_is n s w v words (ap kind e ∙ k) ∙ ap (λ y. by_value n words (said_with_value y v s)) e ∙ ap (by_value n words) is
+
+  module _ {A : Type 0} (x : Word) (of : List ℕ → Option A) (set : A → Said → Said) (wants : kind x ≡ with_value)
       (is : (v : List ℕ) (s : Said) → said_with_value x v s ≡ option_map (λ a. set a s) (of v)) where
     value_goes : (n : ℕ) (s : Said) (w : List ℕ) (vs : List (List ℕ)) (a : A) → read w ≡ x → value_after of n vs ≡ Ok a → said_after read n s (w ∷ vs) ≡ said_after read (n + 2) (set a s) (drop 1 vs)
     value_goes n s w [] a e l = absurd (cc)
@@ -162,16 +84,16 @@ module _ (read : List ℕ → Word) where
         goes_by None from l = absurd (cc)
         goes_by (Some k) from l =
             let same : k ≡ a = cc in
-            value_good n s (set a s) w v words x e wants (is v s ∙ ap (option_map (λ b. set b s)) from ∙ ap (λ b. Some (set b s)) same)
+            value_by n s w v words x (Some (set a s)) e wants (is v s ∙ ap (option_map (λ b. set b s)) from ∙ ap (λ b. Some (set b s)) same)
 
     value_stops : (n : ℕ) (s : Said) (w : List ℕ) (vs : List (List ℕ)) (u : Usage) → read w ≡ x → value_after of n vs ≡ Err u → said_after read n s (w ∷ vs) ≡ Err u
-    value_stops n s w [] u e l = let same : AtWord BadOptionValue n ≡ u = cc in value_alone n s w x e wants ∙ ap Err same
+    value_stops n s w [] u e l = let same : AtWord BadOptionValue n ≡ u = cc in value_alone n s w (ap kind e ∙ wants) ∙ ap Err same
     value_stops n s w (v ∷ words) u e l = stops_by (of v) refl l
       where
         stops_by : (o : Option A) → of v ≡ o → given n o ≡ Err u → said_after read n s (w ∷ v ∷ words) ≡ Err u
         stops_by None from l =
             let same : AtWord BadOptionValue n ≡ u = cc in
-            value_bad n s w v words x e wants (is v s ∙ ap (option_map (λ b. set b s)) from) ∙ ap Err same
+            value_by n s w v words x None e wants (is v s ∙ ap (option_map (λ b. set b s)) from) ∙ ap Err same
         stops_by (Some k) from l = absurd (cc)
 
     -- the turn of the loop that takes such a word and its value
@@ -217,6 +139,17 @@ module _ (read : List ℕ → Word) where
       → said_after read (i + 2) s (texts (drop i ws)) ≡ Err u
   key_refused i ws d s u h p l = value_refused Key key_of (λ a s. record s { key = Some a }) refl key_is i ws d s u h p l
 
+  element_is : (v : List ℕ) (s : Said) → said_with_value Element v s ≡ option_map (λ w. record s { elements = s.elements ++ w ∷ [] }) (Some v)
+  element_is v s = refl
+
+  pub element_turn : {M : Result Said Usage} (i : ℕ) (ws : List (Bor (List ℕ))) (d : Bor (List ℕ)) (s t : Said) (w : List ℕ) → i < length ws → Element ≡ read (get_or ws i d).now → element_after (i + 2) (texts (drop (i + 1) ws)) ≡ Ok w
+      → record s { elements = s.elements ++ w ∷ [] } ≡ t → said_after read (i + 2) s (texts (drop i ws)) ≡ M → said_after read (i + 1 + 1 + 2) t (texts (drop (i + 1 + 1) ws)) ≡ M
+  element_turn i ws d s t w h p l e v = value_turn Element Some (λ a s. record s { elements = s.elements ++ a ∷ [] }) refl element_is i ws d s t w h p l e v
+
+  pub element_refused : (i : ℕ) (ws : List (Bor (List ℕ))) (d : Bor (List ℕ)) (s : Said) (u : Usage) → i < length ws → Element ≡ read (get_or ws i d).now → element_after (i + 2) (texts (drop (i + 1) ws)) ≡ Err u
+      → said_after read (i + 2) s (texts (drop i ws)) ≡ Err u
+  element_refused i ws d s u h p l = value_refused Element Some (λ a s. record s { elements = s.elements ++ a ∷ [] }) refl element_is i ws d s u h p l
+
   pub move_turn : {M : Result Said Usage} (i : ℕ) (ws : List (Bor (List ℕ))) (d : Bor (List ℕ)) (s t : Said) (moved : Moved) → i < length ws → Move ≡ read (get_or ws i d).now → move_after (i + 2) (texts (drop (i + 1) ws)) ≡ Ok moved
       → record s { choice = and_move s.choice moved } ≡ t → said_after read (i + 2) s (texts (drop i ws)) ≡ M → said_after read (i + 1 + 1 + 2) t (texts (drop (i + 1 + 1) ws)) ≡ M
   move_turn i ws d s t moved h p l e v = value_turn Move move_of (λ a s. record s { choice = and_move s.choice a }) refl move_is i ws d s t moved h p l e v
@@ -243,7 +176,7 @@ more_than_two (paths.Two first second) ps e h = cc
 more_than_two paths.More ps e h = h
 
 -- one turn of the loop
-pub turn : {M : Result Said Usage} (read : List ℕ → Word) (i : ℕ) (ws : List (Bor (List ℕ))) (d : Bor (List ℕ)) (s t : Said) (x : Word) → i < length ws → x ≡ read (get_or ws i d).now → goes x ≡ true
+pub turn : {M : Result Said Usage} (read : List ℕ → Word) (i : ℕ) (ws : List (Bor (List ℕ))) (d : Bor (List ℕ)) (s t : Said) (x : Word) → i < length ws → x ≡ read (get_or ws i d).now → kind x ≡ alone
     → said_with x (get_or ws i d).now s ≡ t → said_after read (i + 2) s (texts (drop i ws)) ≡ M → said_after read (i + 1 + 2) t (texts (drop (i + 1) ws)) ≡ M
 turn read i ws d s t x h p g e v = ap (λ (u : Said). said_after read (i + 1 + 2) u (texts (drop (i + 1) ws))) (sym e) ∙ (sym (goes_on read i ws d s x h p g) ∙ v)
 
@@ -253,21 +186,18 @@ placed read k i ws s e h = ap (λ j. said_after read (j + 1 + 2) s (texts (drop 
 
 -- ---- paths that are not two, or empty
 
-some : (n : ℕ) → (suc n == 0) ≡ true → ⊥
-some n p = grind (arith, nat_tests)
-
-module _ (job : Job) where
+module _ (overwrites : Bool) (job : Job) where
   abbrev pub AreWrong : List (List ℕ) → Type 0
-  AreWrong ps = plan_with_two ps job ≡ Err (Whole WrongPaths)
+  AreWrong ps = plan_with_two ps overwrites job ≡ Err (Whole WrongPaths)
 
   pub empty_first : (input output : List ℕ) → (length input == 0) ≡ true → AreWrong (input ∷ output ∷ [])
   empty_first [] output p = refl
-  empty_first (c ∷ cs) output p = absurd (some (length cs) p)
+  empty_first (c ∷ cs) output p = absurd (after_is_not_zero (length cs) p)
 
   pub empty_second : (input output : List ℕ) → (length output == 0) ≡ true → AreWrong (input ∷ output ∷ [])
   empty_second [] output p = refl
   empty_second (c ∷ cs) [] p = refl
-  empty_second (c ∷ cs) (b ∷ bs) p = absurd (some (length bs) p)
+  empty_second (c ∷ cs) (b ∷ bs) p = absurd (after_is_not_zero (length bs) p)
 
   too_many : (ps : List (List ℕ)) → 2 < length ps → AreWrong ps
   too_many [] h = absurd (omega (arith, h))

@@ -26,11 +26,11 @@ abbrev tag : ℕ → ℕ → Tag
 tag g e = record { group = g; element = e }
 
 abbrev planned : List ℕ → List ℕ → Job → Result Plan Usage
-planned input output job = Ok (record { input = input; output = output; key = None; days_by_key = false; job = job })
+planned input output job = Ok (record { input = input; output = output; key = None; overwrites = false; days_by_key = false; job = job })
 
 -- of dcmdeid, from "in" to "out"
 abbrev taken : Options → (reports : Bool) → (key : Option (List ℕ)) → Result Plan Usage
-taken options reports key = Ok (record { input = codes "in"; output = codes "out"; key = key; days_by_key = false; job = deidentify options reports [] })
+taken options reports key = Ok (record { input = codes "in"; output = codes "out"; key = key; overwrites = false; days_by_key = false; job = deidentify options reports [] })
 
 abbrev length_of : Result (List Edit) EditFault → Result ℕ EditFault
 length_of (Ok es) = Ok (length es)
@@ -267,7 +267,7 @@ paths_before_key = refl
 
 -- days by the key
 abbrev taken_by_key : Options → Result Plan Usage
-taken_by_key options = Ok (record { input = codes "in"; output = codes "out"; key = Some (codes "site.key"); days_by_key = true; job = deidentify options true [] })
+taken_by_key options = Ok (record { input = codes "in"; output = codes "out"; key = Some (codes "site.key"); overwrites = false; days_by_key = true; job = deidentify options true [] })
 
 days_by_key : meant (codes "dcmdeid" ∷ codes "+rm" ∷ codes "key" ∷ codes "+k" ∷ codes "site.key" ∷ codes "in" ∷ codes "out" ∷ []) ≡ taken_by_key no_options
 unfolding all
@@ -375,7 +375,7 @@ paths_before_same_key : meant (codes "dcmdeid" ∷ codes "+k" ∷ codes "a" ∷ 
 unfolding all
 paths_before_same_key = refl
 
-deidentify_streams : meant (codes "dcmdeid" ∷ codes "-" ∷ codes "-" ∷ []) ≡ Ok (record { input = codes "-"; output = codes "-"; key = None; days_by_key = false; job = deidentify no_options true [] })
+deidentify_streams : meant (codes "dcmdeid" ∷ codes "-" ∷ codes "-" ∷ []) ≡ Ok (record { input = codes "-"; output = codes "-"; key = None; overwrites = false; days_by_key = false; job = deidentify no_options true [] })
 unfolding all
 deidentify_streams = refl
 
@@ -610,3 +610,52 @@ sixty_four_indexes = refl
 too_many_indexes : meant_edits (codes "-e" ∷ (flat_map {X = ℕ} (λ n. codes "(0008,1140)[0].") (replicate 64 0) ++ codes "(0008,1140)[0]") ∷ []) ≡ Err (in_edit BadOption 1)
 unfolding all
 too_many_indexes = refl
+
+-- ---- an output that is there is overwritten
+
+abbrev overwriting : Job → Result Plan Usage
+overwriting job = Ok (record { input = codes "in"; output = codes "out"; key = None; overwrites = true; days_by_key = false; job = job })
+
+convert_over : meant (codes "dcmconv" ∷ codes "in" ∷ codes "+te" ∷ codes "+ow" ∷ codes "out" ∷ codes "+ow" ∷ []) ≡ overwriting (convert Extract (Some Little))
+unfolding all
+convert_over = refl
+
+build_over : meant (codes "dump2dcm" ∷ codes "+ow" ∷ codes "in" ∷ codes "out" ∷ []) ≡ overwriting (build 4096)
+unfolding all
+build_over = refl
+
+deidentify_over : meant (codes "dcmdeid" ∷ codes "in" ∷ codes "out" ∷ codes "+ow" ∷ []) ≡ overwriting (deidentify no_options true [])
+unfolding all
+deidentify_over = refl
+
+modify_over : meant (codes "dcmodify" ∷ codes "-ep" ∷ codes "+ow" ∷ codes "in" ∷ codes "out" ∷ []) ≡ overwriting (modifies Extract (erase_private ∷ []))
+unfolding all
+modify_over = refl
+
+modify_over_alone : meant (codes "dcmodify" ∷ codes "+ow" ∷ codes "in" ∷ codes "out" ∷ []) ≡ overwriting (modifies Extract [])
+unfolding all
+modify_over_alone = refl
+
+modify_over_by_the_standard : meant (codes "dcmodify" ∷ codes "+ow" ∷ codes "+dict" ∷ codes "-ep" ∷ codes "in" ∷ codes "out" ∷ []) ≡ overwriting (modifies Standard (erase_private ∷ []))
+unfolding all
+modify_over_by_the_standard = refl
+
+path_of_an_edit : meant (codes "dcmodify" ∷ codes "-e" ∷ codes "+ow" ∷ codes "in" ∷ codes "out" ∷ []) ≡ Err (InEdit UnknownTag 1)
+unfolding all
+path_of_an_edit = refl
+
+over_among_paths : meant (codes "dcmodify" ∷ codes "-ep" ∷ codes "in" ∷ codes "+ow" ∷ []) ≡ Err (Whole WrongPaths)
+unfolding all
+over_among_paths = refl
+
+over_as_a_limit : meant (codes "dump2dcm" ∷ codes "+l" ∷ codes "+ow" ∷ codes "in" ∷ codes "out" ∷ []) ≡ Err (AtWord BadOptionValue 2)
+unfolding all
+over_as_a_limit = refl
+
+dump_over : meant (codes "dcmdump" ∷ codes "+ow" ∷ codes "in" ∷ []) ≡ Err (AtWord UnknownOption 2)
+unfolding all
+dump_over = refl
+
+over_itself : meant (codes "dcmconv" ∷ codes "+ow" ∷ codes "a" ∷ codes "a" ∷ []) ≡ Err (Whole SamePath)
+unfolding all
+over_itself = refl

@@ -3,19 +3,16 @@ use Rattle.std.specs.Prelude.{ℕ, List, [], ◌∷◌, Option, Some, None, Ok, 
 use Rattle.std.specs.Prelude.{Result}
 use Rattle.dcm_edits.specs.EditWords as edits
 use Rattle.dcm_words.specs.declared.usage.Word.{Word}
-use Rattle.dcm_words.specs.declared.usage.Word.TheVariants.{Limit, Move, Key}
 use Rattle.dcm_words.specs.declared.usage.Usage.{Usage}
-use Rattle.dcm_words.specs.Words.{Tool, dcmdump, dcmconv, dump2dcm, dcmodify, dcmdeid, tool_of, Said, said_by}
+use Rattle.dcm_words.specs.Words.{Tool, dcmdump, dcmconv, dump2dcm, dcmodify, dcmdeid, tool_of, Said, said_by, kind, alone, with_value}
+use Rattle.dcm_words.specs.Words.{unknown}
 use Rattle.dcm_words.specs.Words.{dump_word, convert_word, build_word, deidentify_word, is_empty_word}
 use Rattle.dcm_words.specs.Words.{EditWords, paths_apart, is_path}
 
 -- ---- a word and the next one
 
 abbrev pub has_value : Word → Bool
-has_value Limit = true
-has_value Move = true
-has_value Key = true
-has_value _ = false
+has_value word = elim (kind word) [ with_value ↦ true | alone ↦ false | unknown ↦ false ]
 
 -- whether the word after this one is its value, or its edit's, whatever it is
 abbrev pub tool_takes_next : Option Tool → List ℕ → Bool
@@ -26,19 +23,20 @@ tool_takes_next (Some dump2dcm) w = has_value (build_word w)
 tool_takes_next (Some dcmodify) w = edits.takes_next (edits.option_word w)
 tool_takes_next (Some dcmdeid) w = has_value (deidentify_word w)
 
--- ---- the input and the output
+-- ---- the input and the output, and whether an output that is there is overwritten
 
 pub record TwoPaths : Type 0 where
   pub input : List ℕ
   pub output : List ℕ
+  pub overwrites : Bool
 
-abbrev pub two_of : List (List ℕ) → Option TwoPaths
-two_of (input ∷ output ∷ []) = if is_empty_word input || is_empty_word output then None
-    else Some (record { input = input; output = output })
-two_of _ = None
+abbrev pub two_of : List (List ℕ) → (overwrites : Bool) → Option TwoPaths
+two_of (input ∷ output ∷ []) overwrites = if is_empty_word input || is_empty_word output then None
+    else Some (record { input = input; output = output; overwrites = overwrites })
+two_of _ overwrites = None
 
 abbrev pub paths_of_said : Result Said Usage → Option TwoPaths
-paths_of_said (Ok s) = two_of s.paths
+paths_of_said (Ok s) = two_of s.paths s.overwrites
 paths_of_said (Err u) = None
 
 abbrev pub paths_said : (List ℕ → Word) → List (List ℕ) → Option TwoPaths
@@ -48,7 +46,9 @@ paths_said read words = paths_of_said (said_by read words)
 abbrev pub paths_at_end : Option EditWords → Option TwoPaths
 paths_at_end None = None
 paths_at_end (Some e) =
-    if is_path e.input && is_path e.output then Some (record { input = e.input; output = e.output }) else None
+    if is_path e.input && is_path e.output
+    then Some (record { input = e.input; output = e.output; overwrites = (edits.settings_of e.edits).overwrites })
+    else None
 
 abbrev pub tool_paths : Option Tool → List (List ℕ) → Option TwoPaths
 tool_paths None words = None

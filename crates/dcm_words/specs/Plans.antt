@@ -4,13 +4,14 @@ use Rattle.std.specs.Prelude.{Bool, false, ◌&&◌, if◌then◌else◌, codes,
 use Rattle.std.specs.Option.{option_map}
 use Rattle.std.specs.Borrow.{Bor}
 use Rattle.dcm_words.specs.declared.usage.Usage.{Usage}
-use Rattle.dcm_words.specs.declared.usage.Usage.TheVariants.{AtWord, Whole, InEdit, Memory}
+use Rattle.dcm_words.specs.declared.usage.Usage.TheVariants.{AtWord, Whole, InEdit, InElement, TooManyElements, Memory}
 use Rattle.dcm_words.specs.declared.usage.Move.{Move}
 use Rattle.dcm_words.specs.declared.usage.Word.{Word}
 use Rattle.dcm_base.specs.declared.fault.WordFault.TheVariants.{BadOptionValue}
 use Rattle.dcm_words.specs.Words as words
 use Rattle.dcm_words.specs.declared.job.Build.{Build}
 use Rattle.dcm_words.specs.declared.job.Dump.{Dump}
+use Rattle.dcm_words.specs.declared.job.Named.{Named}
 use Rattle.dcm_words.specs.declared.job.Job.{Job}
 use Rattle.dcm_words.specs.declared.job.Job.TheVariants as jobs
 use Rattle.dcm_words.specs.declared.job.Planned.{Planned}
@@ -19,9 +20,17 @@ use Rattle.dcm_words.specs.declared.words.Tool.TheVariants as tools
 use Rattle.dcm_words.specs.declared.words.Paths.{Paths}
 use Rattle.dcm_words.specs.declared.words.Paths.TheVariants as paths
 use Rattle.dcm_words.specs.declared.words.Said.{Said}
+use Rattle.dcm_words.specs.Tags.{tags_of}
+use Rattle.dcm_words.specs.Naming.{NamingIs}
+
+abbrev pub named_as : Named → words.Named
+named_as n = record { tags = tags_of n.tags; ways = n.ways }
+
+abbrev pub dump_job : Dump → words.Job
+dump_job d = words.dump_of (named_as d.named) d.texts d.dictionary d.mode d.bare
 
 abbrev pub job_of : {A : Type 0} → Job A → words.Job
-job_of (jobs.Dump d) = words.dump_as d.texts d.dictionary d.mode d.bare
+job_of (jobs.Dump d) = dump_job d
 job_of (jobs.Convert c) = words.convert c.dictionary c.target
 job_of (jobs.Build b) = words.build b.limit
 job_of (jobs.Modify m) = words.modify m.dictionary m.edits
@@ -32,6 +41,7 @@ planned p = record {
   input = p.input.now;
   output = p.output.now;
   key = option_map (λ k. k.now) p.key;
+  overwrites = p.overwrites;
   days_by_key = p.days_by_key;
   job = job_of p.job;
 }
@@ -48,6 +58,8 @@ GivesUnlessMemory (Err Memory) meant = Unit {0}
 GivesUnlessMemory (Err (AtWord u n)) meant = meant ≡ Err (AtWord u n)
 GivesUnlessMemory (Err (Whole u)) meant = meant ≡ Err (Whole u)
 GivesUnlessMemory (Err (InEdit u n)) meant = meant ≡ Err (InEdit u n)
+GivesUnlessMemory (Err (InElement u n)) meant = meant ≡ Err (InElement u n)
+GivesUnlessMemory (Err TooManyElements) meant = meant ≡ Err TooManyElements
 
 -- the edits before the last two words, and these
 abbrev pub edits_between : List (List ℕ) → List ℕ → List ℕ → words.EditWords
@@ -67,9 +79,6 @@ takes_memory [] = false
 takes_memory (tool ∷ others) = bytes_eq tool (codes "dcmodify") && has_paths others
 
 -- what a function made of the options of dcmdump of several files
-abbrev pub dump_job : Dump → words.Job
-dump_job d = words.dump_as d.texts d.dictionary d.mode d.bare
-
 abbrev pub GivesDump : Result (Option Dump) Usage → Result (Option words.Job) Usage → Type 0
 GivesDump (Ok each) meant = meant ≡ Ok (option_map dump_job each)
 GivesDump (Err u) meant = meant ≡ Err u
@@ -106,6 +115,10 @@ move_after n others = value_after words.move_of n others
 abbrev pub key_after : ℕ → List (List ℕ) → Result (List ℕ) Usage
 key_after n others = value_after words.key_of n others
 
+-- a word of any kind may name an element, or name none
+abbrev pub element_after : ℕ → List (List ℕ) → Result (List ℕ) Usage
+element_after n others = value_after Some n others
+
 -- what a function made of them
 abbrev pub LimitAs : Result Build Usage → Result ℕ Usage → Type 0
 LimitAs (Ok b) meant = meant ≡ Ok b.limit
@@ -122,12 +135,14 @@ PathsAre (paths.One first) ps = ps ≡ first.now ∷ []
 PathsAre (paths.Two first second) ps = ps ≡ first.now ∷ second.now ∷ []
 PathsAre paths.More ps = 2 < length ps
 
--- what was said so far, with these paths
-abbrev pub said_with_paths : Said → List (List ℕ) → words.Said
-said_with_paths s ps = record {
+-- what was said so far, with these paths and these words that name elements
+abbrev pub said_with_words : Said → (paths elements : List (List ℕ)) → words.Said
+said_with_words s ps es = record {
   dictionary = s.dictionary;
   mode = s.mode;
   texts = s.texts;
+  elements = es;
+  ways = s.ways;
   data_set = s.data_set;
   bare = s.bare;
   target = s.target;
@@ -135,10 +150,12 @@ said_with_paths s ps = record {
   choice = s.choice;
   pixels_dealt = s.pixels_dealt;
   key = option_map (λ k. k.now) s.key;
+  overwrites = s.overwrites;
   paths = ps;
 }
 
 -- what a function made of all the words
 abbrev pub SaidAs : Result Said Usage → Result words.Said Usage → Type 0
-SaidAs (Ok s) meant = (ps : List (List ℕ)) × PathsAre s.paths ps × (meant ≡ Ok (said_with_paths s ps))
+SaidAs (Ok s) meant = (ps es : List (List ℕ)) × PathsAre s.paths ps × NamingIs s.naming es
+    × (meant ≡ Ok (said_with_words s ps es))
 SaidAs (Err u) meant = meant ≡ Err u

@@ -17,7 +17,7 @@ text Table = texts.TABLE.now
 text Version = texts.VERSION.now
 
 abbrev pub is_help : List ℕ → Bool
-is_help word = bytes_eq word (codes "help") || bytes_eq word (codes "--help")
+is_help word = bytes_eq word (codes "help") || bytes_eq word (codes "--help") || bytes_eq word (codes "-h")
 
 abbrev pub is_version : List ℕ → Bool
 is_version word = bytes_eq word (codes "version") || bytes_eq word (codes "--version")

@@ -1,5 +1,5 @@
 -- What the words of a command line mean.
-use Rattle.std.specs.Prelude.{ℕ, ℤ, pos, negsuc, suc, ◌+◌, ◌-◌, List, [], ◌∷◌, Option, Some, None, Result, Ok, Err, Bool, true, false, ◌||◌}
+use Rattle.std.specs.Prelude.{ℕ, ℤ, pos, negsuc, suc, ◌+◌, ◌-◌, List, [], ◌∷◌, ◌++◌, length, Option, Some, None, Result, Ok, Err, Bool, true, false, ◌||◌}
 use Rattle.std.specs.Prelude.{◌&&◌, not, ◌==◌, nat_le, if◌then◌else◌, codes, bytes_eq}
 use Rattle.std.specs.Option.{is_some, option_map}
 use Rattle.std.specs.Str.{byte}
@@ -11,31 +11,43 @@ use Rattle.dcm_base.specs.declared.mode.Mode.{Mode}
 use Rattle.dcm_base.specs.declared.mode.Mode.TheVariants.{Short, Full}
 use Rattle.dcm_base.specs.declared.fault.WordFault.TheVariants.{UnknownTool, UnknownOption, BadOptionValue, WrongPaths}
 use Rattle.dcm_base.specs.declared.fault.WordFault.TheVariants.{OptionsApart, SamePath, NoKey, ReadTwice}
+use Rattle.dcm_words.specs.declared.tags.TheConstants.{MOST_NAMED}
 use Rattle.dcm_words.specs.declared.job.Texts.{Texts}
 use Rattle.dcm_words.specs.declared.job.Texts.TheVariants.{Bytes, Characters}
 use Rattle.dcm_words.specs.declared.usage.Choice.{Choice}
 use Rattle.dcm_words.specs.declared.usage.Move.{Move as Moved}
 use Rattle.dcm_words.specs.declared.usage.Move.TheVariants.{Days, ByKey}
 use Rattle.dcm_words.specs.declared.usage.Word.{Word}
-use Rattle.dcm_words.specs.declared.usage.Word.TheVariants.{Read, Show, Decode, WholeFile, DataSet, Bare, Target, Limit}
-use Rattle.dcm_words.specs.declared.usage.Word.TheVariants.{Retain, Move, Pseudonyms, PixelsDealt, Key, Accepted, Path, Unknown}
+use Rattle.dcm_words.specs.declared.usage.Word.TheVariants.{Read, Show, Decode, Element, Ways, WholeFile, DataSet, Bare}
+use Rattle.dcm_words.specs.declared.usage.Word.TheVariants.{Target, Limit, Retain, Move, Pseudonyms, PixelsDealt, Key}
+use Rattle.dcm_words.specs.declared.usage.Word.TheVariants.{Overwrite, Accepted, Path, Unknown}
 use Rattle.dcm_deid.specs.declared.fate.Options.{Options}
 use Rattle.dcm_deid.specs.declared.fate.Temporal.TheVariants.{Removed, Full as full_dates, Modified}
 use Rattle.dcm_deid.specs.declared.fate.Retain.{Retain as Kept}
 use Rattle.dcm_deid.specs.declared.fate.Retain.TheVariants.{Uids, Device, Institution, Patient, Dates}
 use Rattle.dcm_words.specs.declared.usage.Usage.{Usage}
-use Rattle.dcm_words.specs.declared.usage.Usage.TheVariants.{AtWord, Whole, InEdit}
+use Rattle.dcm_words.specs.declared.usage.Usage.TheVariants.{AtWord, Whole, InEdit, InElement, TooManyElements}
 pub use Rattle.dcm_base.specs.Lines.Limits.{LINE_LIMIT as GREATEST_LIMIT}
 use Rattle.dcm_base.specs.Lines.Limits.{LINE_LIMIT}
 use Rattle.dcm_base.specs.Lines.ReadValue.{number_in}
 use Rattle.dcm_edits.specs.Edit.{Edit}
-use Rattle.dcm_edits.specs.EditWords.{dictionary_word, dictionary_said, meant_edits_in}
+use Rattle.dcm_edits.specs.declared.parse.Settings.{Settings}
+use Rattle.dcm_edits.specs.EditWords.{dictionary_word, is_overwrite, settings_of, meant_edits_in}
+use Rattle.dcm_edits.specs.TagWords.{tag_named}
+use Rattle.dcm_base.specs.declared.tag.Tag.{Tag}
+
+-- the elements that alone are shown, wherever they stand, and whether the way to each stands before it
+pub record Named : Type 0 where
+  pub tags : List Tag
+  pub ways : Bool
 
 -- what a tool is to do, with the dictionary that it reads with
 pub data Job : Type 0 where
   dump : (dictionary : Dictionary) (mode : Mode) (bare : Option Syntax) → Job
   -- the same, with texts by Specific Character Set, in UTF-8
   dump_decoded : (dictionary : Dictionary) (mode : Mode) (bare : Option Syntax) → Job
+  -- either, of these elements alone
+  dump_named : (texts : Texts) (dictionary : Dictionary) (mode : Mode) (bare : Option Syntax) (named : Named) → Job
   convert : (dictionary : Dictionary) (target : Option Syntax) → Job
   build : (limit : ℕ) → Job
   modify : (dictionary : Dictionary) (edits : List Edit) → Job
@@ -47,6 +59,8 @@ pub record Plan : Type 0 where
   pub input : List ℕ
   pub output : List ℕ
   pub key : Option (List ℕ)
+  -- whether an output that is there is overwritten
+  pub overwrites : Bool
   -- whether dates are moved by the days that the key makes of the patient whom the input names
   pub days_by_key : Bool
   pub job : Job
@@ -73,6 +87,9 @@ dump_word w =
     if bytes_eq w (codes "-L") then Show Short
     else if bytes_eq w (codes "+L") then Show Full
     else if bytes_eq w (codes "+u8") then Decode
+    else if bytes_eq w (codes "+P") then Element
+    else if bytes_eq w (codes "+p") then Ways true
+    else if bytes_eq w (codes "-p") then Ways false
     else if bytes_eq w (codes "+fo") then WholeFile
     else if bytes_eq w (codes "-f") then DataSet
     else if bytes_eq w (codes "-ti") then Bare Implicit
@@ -92,12 +109,14 @@ convert_word w =
     else if bytes_eq w (codes "+tb") then Target (Some Big)
     else if bytes_eq w (codes "-e") then Accepted
     else if bytes_eq w (codes "+fo") then Accepted
+    else if is_overwrite w then Overwrite
     else read_word w
 
 abbrev pub build_word : List ℕ → Word
 build_word w =
     if bytes_eq w (codes "+l") then Limit
     else if bytes_eq w (codes "-e") then Accepted
+    else if is_overwrite w then Overwrite
     else other_word w
 
 abbrev pub deidentify_word : List ℕ → Word
@@ -111,6 +130,7 @@ deidentify_word w =
     else if bytes_eq w (codes "+pi") then Pseudonyms
     else if bytes_eq w (codes "+bi") then PixelsDealt
     else if bytes_eq w (codes "+k") then Key
+    else if is_overwrite w then Overwrite
     else other_word w
 
 -- the least limit that a line may be given, and the one that it has without an option; LINE_LIMIT is the greatest
@@ -160,6 +180,23 @@ is_empty_word (c ∷ cs) = false
 abbrev pub key_of : List ℕ → Option (List ℕ)
 key_of w = if is_empty_word w || bytes_eq w standard then None else Some w
 
+-- ---- elements that words name
+
+-- so many words before these name one; the first refusal is that of the first word that has one
+abbrev pub tags_after : ℕ → List (List ℕ) → Result (List Tag) Usage
+tags_after n [] = Ok []
+tags_after n (w ∷ words) = elim (tag_named w) [
+  | Err refusal ↦ Err (InElement refusal (n + 1))
+  | Ok tag ↦ elim (tags_after (n + 1) words) [ Ok tags ↦ Ok (tag ∷ tags) | Err u ↦ Err u ]
+]
+
+-- the tags that words name
+abbrev pub elements_meant : List (List ℕ) → Result (List Tag) Usage
+elements_meant words = elim (tags_after 0 words) [
+  | Err u ↦ Err u
+  | Ok tags ↦ if nat_le (length tags) MOST_NAMED then Ok tags else Err TooManyElements
+]
+
 -- ---- the words of dcmdump, dcmconv, dump2dcm and dcmdeid
 
 -- what the words so far have said; of two that exclude each other the last counts
@@ -167,6 +204,8 @@ pub record Said : Type 0 where
   pub dictionary : Dictionary
   pub mode : Mode
   pub texts : Texts
+  pub elements : List (List ℕ)
+  pub ways : Bool
   pub data_set : Bool
   pub bare : Option Syntax
   pub target : Option Syntax
@@ -174,6 +213,7 @@ pub record Said : Type 0 where
   pub choice : Choice
   pub pixels_dealt : Bool
   pub key : Option (List ℕ)
+  pub overwrites : Bool
   pub paths : List (List ℕ)
 
 -- the options of dcmdeid that keep more
@@ -214,6 +254,8 @@ nothing_said = record {
   dictionary = Extract;
   mode = Short;
   texts = Bytes;
+  elements = [];
+  ways = false;
   data_set = false;
   bare = None;
   target = None;
@@ -221,6 +263,7 @@ nothing_said = record {
   choice = no_choice;
   pixels_dealt = false;
   key = None;
+  overwrites = false;
   paths = [];
 }
 
@@ -233,6 +276,7 @@ abbrev pub said_with : Word → List ℕ → Said → Said
 said_with (Read dictionary) w s = record s { dictionary = dictionary }
 said_with (Show mode) w s = record s { mode = mode }
 said_with Decode w s = record s { texts = Characters }
+said_with (Ways ways) w s = record s { ways = ways }
 said_with WholeFile w s = record s { data_set = false }
 said_with DataSet w s = record s { data_set = true }
 said_with (Bare syntax) w s = record s { bare = Some syntax }
@@ -240,6 +284,7 @@ said_with (Target syntax) w s = record s { target = syntax }
 said_with (Retain option) w s = record s { choice = and_option s.choice option }
 said_with Pseudonyms w s = record s { choice = and_pseudonyms s.choice }
 said_with PixelsDealt w s = record s { pixels_dealt = true }
+said_with Overwrite w s = record s { overwrites = true }
 said_with Path w s = record s { paths = and_path s.paths w }
 said_with _ w s = s
 
@@ -248,33 +293,36 @@ abbrev pub said_with_value : Word → List ℕ → Said → Option Said
 said_with_value Limit v s = option_map (λ limit. record s { limit = limit }) (limit_of v)
 said_with_value Move v s = option_map (λ moved. record s { choice = and_move s.choice moved }) (move_of v)
 said_with_value Key v s = option_map (λ key. record s { key = Some key }) (key_of v)
+said_with_value Element v s = Some (record s { elements = s.elements ++ v ∷ [] })
 said_with_value _ v s = None
 
--- the words from number n on, after what the ones before have said; the word after one that wants a value is that
+-- a word alone says something, with the next one as its value, or nothing that the tool knows
+pub data Kind : Type 0 where
+  alone with_value unknown : Kind
+
+abbrev pub kind : Word → Kind
+kind Limit = with_value
+kind Move = with_value
+kind Key = with_value
+kind Element = with_value
+kind Unknown = unknown
+kind _ = alone
+
+-- the words from number n on, after what the ones before have said
 abbrev pub said_after : (List ℕ → Word) → ℕ → Said → List (List ℕ) → Result Said Usage
 said_after read n s [] = Ok s
-said_after read n s (w ∷ []) = elim (read w) [
-  | Unknown ↦ Err (AtWord UnknownOption n)
-  | Limit ↦ Err (AtWord BadOptionValue n)
-  | Move ↦ Err (AtWord BadOptionValue n)
-  | Key ↦ Err (AtWord BadOptionValue n)
-  | word ↦ Ok (said_with word w s)
+said_after read n s (w ∷ []) = elim (kind (read w)) [
+  | unknown ↦ Err (AtWord UnknownOption n)
+  | with_value ↦ Err (AtWord BadOptionValue n)
+  | alone ↦ Ok (said_with (read w) w s)
 ]
-said_after read n s (w ∷ v ∷ words) = elim (read w) [
-  | Unknown ↦ Err (AtWord UnknownOption n)
-  | Limit ↦ elim (said_with_value Limit v s) [
+said_after read n s (w ∷ v ∷ words) = elim (kind (read w)) [
+  | unknown ↦ Err (AtWord UnknownOption n)
+  | with_value ↦ elim (said_with_value (read w) v s) [
     | None ↦ Err (AtWord BadOptionValue n)
     | Some t ↦ said_after read (n + 2) t words
   ]
-  | Move ↦ elim (said_with_value Move v s) [
-    | None ↦ Err (AtWord BadOptionValue n)
-    | Some t ↦ said_after read (n + 2) t words
-  ]
-  | Key ↦ elim (said_with_value Key v s) [
-    | None ↦ Err (AtWord BadOptionValue n)
-    | Some t ↦ said_after read (n + 2) t words
-  ]
-  | word ↦ said_after read (suc n) (said_with word w s) (v ∷ words)
+  | alone ↦ said_after read (suc n) (said_with (read w) w s) (v ∷ words)
 ]
 
 -- the tool's name is word 1
@@ -286,14 +334,23 @@ said_by read words = said_after read 2 nothing_said words
 abbrev pub differ : List ℕ → List ℕ → Bool
 differ input output = not (bytes_eq input output) || bytes_eq input standard
 
-abbrev pub plan_if_apart : List ℕ → List ℕ → Job → Result Plan Usage
-plan_if_apart input output job = if differ input output
-    then Ok (record { input = input; output = output; key = None; days_by_key = false; job = job }) else Err (Whole SamePath)
+abbrev pub plan_if_apart : List ℕ → List ℕ → (overwrites : Bool) → Job → Result Plan Usage
+plan_if_apart input output overwrites job = if differ input output
+    then Ok (record {
+      input = input;
+      output = output;
+      key = None;
+      overwrites = overwrites;
+      days_by_key = false;
+      job = job;
+    })
+    else Err (Whole SamePath)
 
-abbrev pub plan_with_two : List (List ℕ) → Job → Result Plan Usage
-plan_with_two (input ∷ output ∷ []) job = if is_empty_word input || is_empty_word output then Err (Whole WrongPaths)
-    else plan_if_apart input output job
-plan_with_two _ job = Err (Whole WrongPaths)
+abbrev pub plan_with_two : List (List ℕ) → (overwrites : Bool) → Job → Result Plan Usage
+plan_with_two (input ∷ output ∷ []) overwrites job =
+    if is_empty_word input || is_empty_word output then Err (Whole WrongPaths)
+    else plan_if_apart input output overwrites job
+plan_with_two _ overwrites job = Err (Whole WrongPaths)
 
 abbrev pub same : Bool → Bool → Bool
 same true b = b
@@ -304,36 +361,58 @@ abbrev pub dump_as : Texts → Dictionary → Mode → Option Syntax → Job
 dump_as Bytes d mode bare = dump d mode bare
 dump_as Characters d mode bare = dump_decoded d mode bare
 
+-- of these elements alone, where there are any
+abbrev pub dump_of : Named → Texts → Dictionary → Mode → Option Syntax → Job
+dump_of named texts d mode bare = elim named.tags [
+  | [] ↦ dump_as texts d mode bare
+  | tag ∷ tags ↦ dump_named texts d mode bare named
+]
+
 -- that the words ask for
-abbrev pub dump_said : Said → Job
-dump_said s = dump_as s.texts s.dictionary s.mode s.bare
+abbrev pub dump_said : Said → List Tag → Job
+dump_said s tags = dump_of (record { tags = tags; ways = s.ways }) s.texts s.dictionary s.mode s.bare
 
 -- a data set alone is read only in a syntax that the words name, which are for it alone
-abbrev pub dump_plan_of : List ℕ → Said → Result Plan Usage
-dump_plan_of input s = if same s.data_set (is_some s.bare)
-    then Ok (record { input = input; output = standard; key = None; days_by_key = false; job = dump_said s })
+abbrev pub dump_plan_of : List ℕ → Said → List Tag → Result Plan Usage
+dump_plan_of input s tags = if same s.data_set (is_some s.bare)
+    then Ok (record {
+      input = input;
+      output = standard;
+      key = None;
+      overwrites = false;
+      days_by_key = false;
+      job = dump_said s tags;
+    })
     else Err (Whole OptionsApart)
 
-abbrev pub dump_plan_with : List (List ℕ) → Said → Result Plan Usage
-dump_plan_with (input ∷ []) s = if is_empty_word input then Err (Whole WrongPaths) else dump_plan_of input s
-dump_plan_with _ s = Err (Whole WrongPaths)
+abbrev pub dump_plan_with : List (List ℕ) → Said → List Tag → Result Plan Usage
+dump_plan_with (input ∷ []) s tags = if is_empty_word input then Err (Whole WrongPaths) else dump_plan_of input s tags
+dump_plan_with _ s tags = Err (Whole WrongPaths)
+
+-- the elements are refused behind each word, and before the paths
+abbrev pub dump_plan_said : Said → Result Plan Usage
+dump_plan_said s = elim (elements_meant s.elements) [ Ok tags ↦ dump_plan_with s.paths s tags | Err u ↦ Err u ]
 
 abbrev pub dump_plan : List (List ℕ) → Result Plan Usage
-dump_plan words = elim (said_by dump_word words) [ Ok s ↦ dump_plan_with s.paths s | Err u ↦ Err u ]
+dump_plan words = elim (said_by dump_word words) [ Ok s ↦ dump_plan_said s | Err u ↦ Err u ]
 
 -- how dcmdump shows each of several files, by its options; none where they do not go together
-abbrev pub dump_by : Said → Option Job
-dump_by s = if same s.data_set (is_some s.bare) then Some (dump_said s) else None
+abbrev pub dump_by : Said → List Tag → Option Job
+dump_by s tags = if same s.data_set (is_some s.bare) then Some (dump_said s tags) else None
+
+abbrev pub dump_each_said : Said → Result (Option Job) Usage
+dump_each_said s = elim (elements_meant s.elements) [ Ok tags ↦ Ok (dump_by s tags) | Err u ↦ Err u ]
 
 abbrev pub dump_of_each : List (List ℕ) → Result (Option Job) Usage
-dump_of_each words = elim (said_by dumps_word words) [ Ok s ↦ Ok (dump_by s) | Err u ↦ Err u ]
+dump_of_each words = elim (said_by dumps_word words) [ Ok s ↦ dump_each_said s | Err u ↦ Err u ]
 
 abbrev pub convert_plan : List (List ℕ) → Result Plan Usage
 convert_plan words = elim (said_by convert_word words)
-    [ Ok s ↦ plan_with_two s.paths (convert s.dictionary s.target) | Err u ↦ Err u ]
+    [ Ok s ↦ plan_with_two s.paths s.overwrites (convert s.dictionary s.target) | Err u ↦ Err u ]
 
 abbrev pub build_plan : List (List ℕ) → Result Plan Usage
-build_plan words = elim (said_by build_word words) [ Ok s ↦ plan_with_two s.paths (build s.limit) | Err u ↦ Err u ]
+build_plan words = elim (said_by build_word words)
+    [ Ok s ↦ plan_with_two s.paths s.overwrites (build s.limit) | Err u ↦ Err u ]
 
 -- the output does not have the path of the key
 abbrev pub is_same_key : Option (List ℕ) → List ℕ → Bool
@@ -356,10 +435,17 @@ abbrev pub plan_with_key : Option (List ℕ) → Choice → Plan → Result Plan
 plan_with_key key c p = if is_same_key key p.output then Err (Whole SamePath)
     else if is_missing key (needs_key c) then Err (Whole NoKey)
     else if is_twice p.input c then Err (Whole ReadTwice)
-    else Ok (record { input = p.input; output = p.output; key = key; days_by_key = c.days_by_key; job = p.job })
+    else Ok (record {
+      input = p.input;
+      output = p.output;
+      key = key;
+      overwrites = p.overwrites;
+      days_by_key = c.days_by_key;
+      job = p.job;
+    })
 
 abbrev pub deidentify_plan_of : Said → Result Plan Usage
-deidentify_plan_of s = elim (plan_with_two s.paths (deidentify s.choice.options (not s.pixels_dealt) []))
+deidentify_plan_of s = elim (plan_with_two s.paths s.overwrites (deidentify s.choice.options (not s.pixels_dealt) []))
     [ Ok p ↦ plan_with_key s.key s.choice p | Err u ↦ Err u ]
 
 abbrev pub deidentify_plan : List (List ℕ) → Result Plan Usage
@@ -384,13 +470,15 @@ paths_apart (w ∷ v ∷ u ∷ words) = and_edit_word w (paths_apart (v ∷ u �
 abbrev pub is_path : List ℕ → Bool
 is_path w = not (is_empty_word w) && not (is_option w)
 
-abbrev pub modify_plan_in : Dictionary → EditWords → Result Plan Usage
-modify_plan_in d e = elim (meant_edits_in d e.edits)
-    [ Ok edits ↦ plan_if_apart e.input e.output (modify d edits) | Err u ↦ Err (InEdit u.refusal u.number) ]
+abbrev pub modify_plan_in : Settings → EditWords → Result Plan Usage
+modify_plan_in s e = elim (meant_edits_in s.dictionary e.edits) [
+  | Ok edits ↦ plan_if_apart e.input e.output s.overwrites (modify s.dictionary edits)
+  | Err u ↦ Err (InEdit u.refusal u.number)
+]
 
--- the last dictionary that is named counts for all edits
+-- by what its words say of all edits
 abbrev pub modify_plan_with : EditWords → Result Plan Usage
-modify_plan_with e = modify_plan_in (dictionary_said Extract e.edits) e
+modify_plan_with e = modify_plan_in (settings_of e.edits) e
 
 abbrev pub modify_plan : List (List ℕ) → Result Plan Usage
 modify_plan words = elim (paths_apart words) [

@@ -3,6 +3,7 @@ ghost use Rattle.std.specs.Prelude.{◌≤◌};
 ghost use Rattle.dcm_base.specs.Lines.Limits.{LINE_LIMIT};
 ghost use Rattle.dcm_words.specs.Words.{LEAST_LIMIT};
 
+use crate::tags::Tags;
 use arrayvec::ArrayVec;
 use dcm_base::{Dictionary, Mode, Syntax};
 use dcm_deid::Options;
@@ -28,6 +29,14 @@ pub enum Texts {
     Characters,
 }
 
+/// The elements that alone are shown, wherever they stand, or none where all are, and whether the way to each stands
+/// before it: the tags of the sequences around it.
+#[derive(Clone, Copy, Debug, PartialEq, Eq)]
+pub struct Named {
+    pub tags: Tags,
+    pub ways: bool,
+}
+
 /// The dump of a file, or of a data set alone in a syntax, read with a dictionary.
 #[derive(Clone, Copy, Debug, PartialEq, Eq)]
 pub struct Dump {
@@ -35,6 +44,7 @@ pub struct Dump {
     pub mode: Mode,
     pub texts: Texts,
     pub bare: Option<Syntax>,
+    pub named: Named,
 }
 
 /// The conversion of a file, read with a dictionary, to a transfer syntax, or none for its own.
@@ -77,6 +87,8 @@ pub struct Planned<'a, A: Allocator = Global> {
     pub input: &'a [u8],
     pub output: &'a [u8],
     pub key: Option<&'a [u8]>,
+    /// Whether an output that is there is overwritten.
+    pub overwrites: bool,
     /// Whether dates are moved by the days that the key makes of the patient whom the input names. They are not known
     /// so far.
     pub days_by_key: bool,

@@ -7,7 +7,7 @@ use crate::usage::Word;
 use crate::words::Tool;
 use dcm_base::{Dictionary, Mode, Syntax};
 use dcm_deid::Retain;
-use dcm_edits::dictionary_word;
+use dcm_edits::{dictionary_word, is_overwrite};
 
 /// The option by which dcmdump says of one file, too, which it is.
 pub const SEVERAL: &[u8] = b"+F";
@@ -43,6 +43,12 @@ fn dump_word(word: &[u8]) -> Word
         Word::Show(Mode::Full)
     } else if word == b"+u8".as_slice() {
         Word::Decode
+    } else if word == b"+P".as_slice() {
+        Word::Element
+    } else if word == b"+p".as_slice() {
+        Word::Ways(true)
+    } else if word == b"-p".as_slice() {
+        Word::Ways(false)
     } else if word == b"+fo".as_slice() {
         Word::WholeFile
     } else if word == b"-f".as_slice() {
@@ -85,6 +91,8 @@ fn convert_word(word: &[u8]) -> Word
         Word::Accepted
     } else if word == b"+fo".as_slice() {
         Word::Accepted
+    } else if is_overwrite(word) {
+        Word::Overwrite
     } else {
         read_word(word)
     }
@@ -98,6 +106,8 @@ fn build_word(word: &[u8]) -> Word
         Word::Limit
     } else if word == b"-e".as_slice() {
         Word::Accepted
+    } else if is_overwrite(word) {
+        Word::Overwrite
     } else {
         other_word(word)
     }
@@ -125,6 +135,8 @@ fn deidentify_word(word: &[u8]) -> Word
         Word::PixelsDealt
     } else if word == b"+k".as_slice() {
         Word::Key
+    } else if is_overwrite(word) {
+        Word::Overwrite
     } else {
         other_word(word)
     }

@@ -8,20 +8,21 @@ ghost use Rattle.dcm_words.specs.Plans.{reader, PathsAre};
 use crate::options::word_of;
 use crate::usage::Word;
 use crate::words::{Paths, Tool, is_path, said_by};
-use dcm_edits::takes_next as edit_takes_next;
+use dcm_edits::{settings_of, takes_next as edit_takes_next};
 
-/// The input and the output that words name.
+/// The input and the output that words name, and whether an output that is there is overwritten.
 #[derive(Clone, Copy, Debug, PartialEq, Eq)]
 pub struct TwoPaths<'a> {
     pub input: &'a [u8],
     pub output: &'a [u8],
+    pub overwrites: bool,
 }
 
 /// Whether the word after one that says this is its value.
 fn has_value(word: Word) -> bool
     ensures { result ≡ spec.has_value word }
 {
-    matches!(word, Word::Limit | Word::Move | Word::Key)
+    matches!(word, Word::Limit | Word::Move | Word::Key | Word::Element)
 }
 
 /// Whether the next word is the value of this one, which stands where a tool has an option.
@@ -52,12 +53,17 @@ pub fn takes_next(tool: &[u8], word: &[u8]) -> bool
 }
 
 /// An input and an output, where the paths are just these.
-fn two_of<'a>(paths: Paths<'a>) -> Option<TwoPaths<'a>>
-    ensures { (ps : List (List ℕ)) → PathsAre paths.entry ps → option_map two_as result ≡ spec.two_of ps }
+fn two_of<'a>(paths: Paths<'a>, overwrites: bool) -> Option<TwoPaths<'a>>
+    ensures { (ps : List (List ℕ)) → PathsAre paths.entry ps
+        → option_map two_as result ≡ spec.two_of ps overwrites }
 {
     match paths {
         Paths::Two(input, output) if !input.is_empty() && !output.is_empty() => {
-            Some(TwoPaths { input, output })
+            Some(TwoPaths {
+                input,
+                output,
+                overwrites,
+            })
         }
         _ => None,
     }
@@ -68,7 +74,7 @@ fn paths_said<'a>(tool: Tool, words: &'a [&'a [u8]]) -> Option<TwoPaths<'a>>
     ensures { option_map two_as result ≡ spec.paths_said (reader tool) (map (λ w. w.now) words.now) }
 {
     match said_by(tool, words) {
-        Ok(said) => two_of(said.paths),
+        Ok(said) => two_of(said.paths, said.overwrites),
         Err(_) => None,
     }
 }
@@ -77,13 +83,17 @@ fn paths_said<'a>(tool: Tool, words: &'a [&'a [u8]]) -> Option<TwoPaths<'a>>
 fn paths_at_end<'a>(words: &'a [&'a [u8]]) -> Option<TwoPaths<'a>>
     ensures { option_map two_as result ≡ spec.paths_at_end (paths_apart (map (λ w. w.now) words.now)) }
 {
-    let [.., input, output] = words else {
+    let [edit_words @ .., input, output] = words else {
         return None;
     };
     if !is_path(input) || !is_path(output) {
         return None;
     }
-    Some(TwoPaths { input, output })
+    Some(TwoPaths {
+        input,
+        output,
+        overwrites: settings_of(edit_words).overwrites,
+    })
 }
 
 /// The input and the output that the words after the program's name have, of a tool that has both; none where an

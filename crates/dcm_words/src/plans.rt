@@ -4,12 +4,12 @@ ghost use Rattle.dcm_words.specs.Words as spec;
 ghost use Rattle.dcm_words.specs.Plans.{job_of, takes_memory, has_paths, GivesUnlessMemory, edits_between};
 ghost use Rattle.dcm_words.specs.Plans.{Gives, GivesDump, PathsAre, SaidAs, planned as planned_of};
 
-use crate::job::{Convert, Deidentify, Dump, Job, Modify, Planned};
+use crate::job::{Convert, Deidentify, Dump, Job, Modify, Named, Planned};
 use crate::usage::{Choice, Usage};
 use crate::words::{Paths, STANDARD, Tool, is_path, said_by};
 use arrayvec::ArrayVec;
-use dcm_base::{Dictionary, WordFault};
-use dcm_edits::{EditFault, Edits, dictionary_said};
+use dcm_base::WordFault;
+use dcm_edits::{EditFault, Edits, Settings, settings_of};
 use std::alloc::Allocator;
 
 /// What the words of dcmdump after its name mean, or the first refusal.
@@ -17,6 +17,7 @@ fn plan_dump<'a, A: Allocator>(words: &'a [&'a [u8]]) -> Result<Planned<'a, A>, 
     ensures { Gives result (spec.dump_plan (map (λ w. w.now) words.now)) }
 {
     let said = said_by(Tool::Dump, words)?;
+    let tags = said.naming.finish()?;
     let input = match said.paths {
         Paths::One(input) if !input.is_empty() => input,
         _ => return Err(Usage::Whole(WordFault::WrongPaths)),
@@ -28,12 +29,17 @@ fn plan_dump<'a, A: Allocator>(words: &'a [&'a [u8]]) -> Result<Planned<'a, A>, 
         input,
         output: STANDARD,
         key: None,
+        overwrites: false,
         days_by_key: false,
         job: Job::Dump(Dump {
             dictionary: said.dictionary,
             mode: said.mode,
             texts: said.texts,
             bare: said.bare,
+            named: Named {
+                tags,
+                ways: said.ways,
+            },
         }),
     })
 }
@@ -44,6 +50,7 @@ pub fn dump_of_each(words: &[&[u8]]) -> Result<Option<Dump>, Usage>
     ensures { GivesDump result (spec.dump_of_each (map (λ w. w.now) words.now)) }
 {
     let said = said_by(Tool::Dumps, words)?;
+    let tags = said.naming.finish()?;
     if said.data_set != said.bare.is_some() {
         return Ok(None);
     }
@@ -52,6 +59,10 @@ pub fn dump_of_each(words: &[&[u8]]) -> Result<Option<Dump>, Usage>
         mode: said.mode,
         texts: said.texts,
         bare: said.bare,
+        named: Named {
+            tags,
+            ways: said.ways,
+        },
     }))
 }
 
@@ -59,9 +70,10 @@ pub fn dump_of_each(words: &[&[u8]]) -> Result<Option<Dump>, Usage>
 fn plan_if_apart<'a, A: Allocator>(
     input: &'a [u8],
     output: &'a [u8],
+    overwrites: bool,
     job: Job<A>,
 ) -> Result<Planned<'a, A>, Usage>
-    ensures { Gives result (spec.plan_if_apart input.now output.now (job_of job)) }
+    ensures { Gives result (spec.plan_if_apart input.now output.now overwrites (job_of job)) }
 {
     if input == output && input != STANDARD {
         return Err(Usage::Whole(WordFault::SamePath));
@@ -70,18 +82,24 @@ fn plan_if_apart<'a, A: Allocator>(
         input,
         output,
         key: None,
+        overwrites,
         days_by_key: false,
         job,
     })
 }
 
 /// A job with an input and an output.
-fn plan_with_two<'a, A: Allocator>(paths: Paths<'a>, job: Job<A>) -> Result<Planned<'a, A>, Usage>
-    ensures { (ps : List (List ℕ)) → PathsAre paths.entry ps → Gives result (spec.plan_with_two ps (job_of job)) }
+fn plan_with_two<'a, A: Allocator>(
+    paths: Paths<'a>,
+    overwrites: bool,
+    job: Job<A>,
+) -> Result<Planned<'a, A>, Usage>
+    ensures { (ps : List (List ℕ)) → PathsAre paths.entry ps
+        → Gives result (spec.plan_with_two ps overwrites (job_of job)) }
 {
     match paths {
         Paths::Two(input, output) if !input.is_empty() && !output.is_empty() => {
-            plan_if_apart(input, output, job)
+            plan_if_apart(input, output, overwrites, job)
         }
         _ => Err(Usage::Whole(WordFault::WrongPaths)),
     }
@@ -94,6 +112,7 @@ fn plan_convert<'a, A: Allocator>(words: &'a [&'a [u8]]) -> Result<Planned<'a, A
     let said = said_by(Tool::Convert, words)?;
     plan_with_two(
         said.paths,
+        said.overwrites,
         Job::Convert(Convert {
             dictionary: said.dictionary,
             target: said.target,
@@ -106,7 +125,7 @@ fn plan_build<'a, A: Allocator>(words: &'a [&'a [u8]]) -> Result<Planned<'a, A>,
     ensures { Gives result (spec.build_plan (map (λ w. w.now) words.now)) }
 {
     let said = said_by(Tool::Build, words)?;
-    plan_with_two(said.paths, Job::Build(said.build))
+    plan_with_two(said.paths, said.overwrites, Job::Build(said.build))
 }
 
 /// Whether the path of a key is that of the output.
@@ -159,6 +178,7 @@ fn plan_deidentify<'a, A: Allocator>(words: &'a [&'a [u8]]) -> Result<Planned<'a
     let said = said_by(Tool::Deidentify, words)?;
     let planned = plan_with_two(
         said.paths,
+        said.overwrites,
         Job::Deidentify(Deidentify {
             options: said.choice.options,
             reports: !said.pixels_dealt,
@@ -168,19 +188,25 @@ fn plan_deidentify<'a, A: Allocator>(words: &'a [&'a [u8]]) -> Result<Planned<'a
     plan_with_key(planned, said.key, said.choice)
 }
 
-/// The edits that words mean by a dictionary, from one path to another, or the first refusal.
+/// The edits that words mean, by what they say of all edits, from one path to another, or the first refusal.
 fn plan_edits<'a, A: Allocator + Copy>(
     alloc: A,
-    dictionary: Dictionary,
+    settings: Settings,
     edit_words: &[&[u8]],
     input: &'a [u8],
     output: &'a [u8],
 ) -> Result<Planned<'a, A>, Usage>
     ensures { GivesUnlessMemory result
-        (spec.modify_plan_in dictionary (edits_between (map (λ w. w.now) edit_words.now) input.now output.now)) }
+        (spec.modify_plan_in settings (edits_between (map (λ w. w.now) edit_words.now) input.now output.now)) }
 {
+    let dictionary = settings.dictionary;
     match Edits::parse_in(alloc, dictionary, edit_words) {
-        Ok(edits) => plan_if_apart(input, output, Job::Modify(Modify { dictionary, edits })),
+        Ok(edits) => plan_if_apart(
+            input,
+            output,
+            settings.overwrites,
+            Job::Modify(Modify { dictionary, edits }),
+        ),
         Err(EditFault::Refused(refusal, number)) => Err(Usage::InEdit(refusal, number)),
         Err(EditFault::Memory) => Err(Usage::Memory),
     }
@@ -201,13 +227,7 @@ fn plan_modify<'a, A: Allocator + Copy>(
     if !is_path(input) || !is_path(output) {
         return Err(Usage::Whole(WordFault::WrongPaths));
     }
-    plan_edits(
-        alloc,
-        dictionary_said(edit_words),
-        edit_words,
-        input,
-        output,
-    )
+    plan_edits(alloc, settings_of(edit_words), edit_words, input, output)
 }
 
 /// The job that the words after the program's name mean, with the paths borrowed from them, or the first refusal.

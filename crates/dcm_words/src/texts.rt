@@ -42,6 +42,10 @@ dcmtools dcmdump [OPTION].. FILE..: show DICOM files as text, an element on a li
   -L     cut displays of more than 66 bytes (default)
   +L     show displays whole
   +u8    show texts by Specific Character Set, in UTF-8
+  +P TAG show no other element than this one, wherever it stands: a keyword, or a number as
+         (0010,0010); may come 64 times
+  +p     with +P: show the tags of the sequences around it before it
+  -p     show none (default)
   +fo    the input is a file with a meta group (default)
   -f     the input is a data set alone, in one of the next three syntaxes
   -ti    with -f: implicit VR little endian
@@ -71,6 +75,7 @@ dcmtools dcmconv [OPTION].. +r FOLDER OUTPUT: do each file of a folder, at any d
   +fo    the input is a file with a meta group (always so)
   -dict  read with the extract of 90 elements (default)
   +dict  read with the whole data dictionary of PS3.6
+  +ow    overwrite an OUTPUT that is there (else a file with bytes stays: status 4)
   +r     do each file of FOLDER: the output of NAME is OUTPUT/NAME
   +c     with +r: continue; an output that is there stays
   +part I/N
@@ -93,6 +98,7 @@ dcmtools dump2dcm [OPTION].. LINES OUTPUT: build a DICOM file from the lines of 
 
   +l N   a line has at most N bytes, 80 to 16384 (default 4096)
   -e     write undefined lengths (always so)
+  +ow    overwrite an OUTPUT that is there (else a file with bytes stays: status 4)
 
 Exit status: 0 done, 1 words refused, 2 input at fault, 4 file not opened, read or written,
 5 out of memory. The manual: man dcmtools, and docs/users/PROFILE.md
@@ -111,6 +117,7 @@ dcmtools dcmodify EDIT.. +r FOLDER OUTPUT: do each file of a folder, at any dept
   -ep            erase each element of an odd group, at all depths
   -dict          name elements of the extract of 90 (default)
   +dict          name elements of the whole data dictionary of PS3.6, and read with it
+  +ow            overwrite an OUTPUT that is there (else a file with bytes stays: status 4)
   +r             do each file of FOLDER: the output of NAME is OUTPUT/NAME
   +c             with +r: continue; an output that is there stays
   +part I/N      with +r: of all names the I-th of N parts, 1 to 9999, each as one run
@@ -121,9 +128,9 @@ A TAG is a keyword or (gggg,eeee). A PATH is a TAG, after steps such as ContentS
 ContentSequence[*]. into items.
 
 In implicit VR -ma, -ea and -ep miss most sequences without +dict: names may be left.
-The last word is OUTPUT, which is overwritten: of two files, as DCMTK takes them, the second is lost.
-With +r no output is replaced. FOLDER may be @LIST: the names of files, one a line, from the file
-LIST; @- is standard input. Each name has a row on standard output: what became of it.
+The last word is OUTPUT, and no second FILE as in DCMTK. With +r no output is replaced. FOLDER may be
+@LIST: the names of files, one a line, from the file LIST; @- is standard input. Each name has a row
+on standard output: what became of it.
 
 Exit status: 0 done, 1 words refused, 2 input at fault, 3 an edit found no place and all else was
 done, 4 file not opened, read or written, or a name not done, 5 out of memory; of a folder the
@@ -148,6 +155,7 @@ dcmtools dcmdeid [OPTION].. +r FOLDER OUTPUT: do each file of a folder, at any d
   +bi    what pixels show was dealt with: it is not reported
   +k KEY make new identifiers with the bytes of the file KEY, 16 to 4096 of them; +pi and
          +rm key need it
+  +ow    overwrite an OUTPUT that is there (else a file with bytes stays: status 4)
   +r     do each file of FOLDER: its output is OUTPUT/STUDY/SERIES/INSTANCE.dcm, by its new identifiers
   +c     with +r: continue; an output that is there stays
   +part I/N

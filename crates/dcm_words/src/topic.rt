@@ -48,7 +48,7 @@ impl Topic {
 fn is_help(word: &[u8]) -> bool
     ensures { result ≡ spec.is_help word.now }
 {
-    word == b"help".as_slice() || word == b"--help".as_slice()
+    word == b"help".as_slice() || word == b"--help".as_slice() || word == b"-h".as_slice()
 }
 
 /// Whether a word asks for the version.

@@ -11,6 +11,10 @@ pub enum Word {
     Show(Mode),
     /// Texts are shown by Specific Character Set, in UTF-8.
     Decode,
+    /// The next word names an element that is shown, and others are not.
+    Element,
+    /// Whether the way to an element that is named is shown.
+    Ways(bool),
     /// The input is a file with a meta group.
     WholeFile,
     /// The input is a data set alone.
@@ -31,6 +35,8 @@ pub enum Word {
     Pseudonyms,
     /// The next word is the path of the key of what is made anew.
     Key,
+    /// An output that is there is overwritten.
+    Overwrite,
     /// An option that changes nothing.
     Accepted,
     Path,
@@ -63,6 +69,10 @@ pub enum Usage {
     Whole(WordFault),
     /// An edit is refused; edits are counted from 1.
     InEdit(EditRefusal, usize),
+    /// The name of an element is refused; elements are counted from 1.
+    InElement(EditRefusal, usize),
+    /// More than 64 elements are named.
+    TooManyElements,
     /// The memory for the edits was refused.
     Memory,
 }

@@ -4,10 +4,11 @@ ghost use Rattle.dcm_base.specs.Lines.ReadValue.{number_in};
 ghost use Rattle.dcm_words.specs.Words as spec;
 ghost use Rattle.dcm_words.specs.Plans.{reader};
 ghost use Rattle.dcm_words.specs.Plans.{capped, limit_after as said_limit, move_after as said_move};
-ghost use Rattle.dcm_words.specs.Plans.{key_after as said_key, LimitAs, KeyAs};
+ghost use Rattle.dcm_words.specs.Plans.{key_after as said_key, element_after as said_element, LimitAs, KeyAs};
 ghost use Rattle.dcm_words.specs.Plans.{PathsAre, SaidAs};
 
 use crate::job::{Build, Texts};
+use crate::naming::Naming;
 use crate::options::{other_word, word_of};
 use crate::usage::{Choice, Move, Usage, Word};
 use dcm_base::{Dictionary, LINE_LIMIT, Mode, Syntax, WordFault, decimal_digit};
@@ -51,6 +52,8 @@ pub struct Said<'a> {
     pub dictionary: Dictionary,
     pub mode: Mode,
     pub texts: Texts,
+    pub naming: Naming,
+    pub ways: bool,
     pub data_set: bool,
     pub bare: Option<Syntax>,
     pub target: Option<Syntax>,
@@ -58,6 +61,7 @@ pub struct Said<'a> {
     pub choice: Choice,
     pub pixels_dealt: bool,
     pub key: Option<&'a [u8]>,
+    pub overwrites: bool,
     pub paths: Paths<'a>,
 }
 
@@ -221,6 +225,17 @@ fn key_after<'a>(words: &'a [&'a [u8]], place: usize) -> Result<&'a [u8], Usage>
     }
 }
 
+/// The word after this place, which names an element.
+fn element_after<'a>(words: &'a [&'a [u8]], place: usize) -> Result<&'a [u8], Usage>
+    requires { place < length words.now }
+    ensures { KeyAs result (said_element (place + 2) (map (λ w. w.now) (drop (place + 1) words.now))) }
+{
+    match words.get(place + 1) {
+        Some(word) => Ok(word),
+        None => Err(Usage::AtWord(WordFault::BadOptionValue, place + 2)),
+    }
+}
+
 /// The options so far, and this one.
 fn with_option(options: Options, retain: Retain) -> Options
     ensures { result ≡ spec.with_option options retain }
@@ -279,6 +294,8 @@ pub fn said_by<'a>(tool: Tool, words: &'a [&'a [u8]]) -> Result<Said<'a>, Usage>
         dictionary: Dictionary::Extract,
         mode: Mode::Short,
         texts: Texts::Bytes,
+        naming: Naming::new(),
+        ways: false,
         data_set: false,
         bare: None,
         target: None,
@@ -286,6 +303,7 @@ pub fn said_by<'a>(tool: Tool, words: &'a [&'a [u8]]) -> Result<Said<'a>, Usage>
         choice: NO_CHOICE,
         pixels_dealt: false,
         key: None,
+        overwrites: false,
         paths: Paths::None,
     };
     let mut i = 0;
@@ -295,6 +313,11 @@ pub fn said_by<'a>(tool: Tool, words: &'a [&'a [u8]]) -> Result<Said<'a>, Usage>
             Word::Read(dictionary) => said.dictionary = dictionary,
             Word::Show(mode) => said.mode = mode,
             Word::Decode => said.texts = Texts::Characters,
+            Word::Element => {
+                said.naming.add(element_after(words, i)?);
+                i += 1;
+            }
+            Word::Ways(ways) => said.ways = ways,
             Word::WholeFile => said.data_set = false,
             Word::DataSet => said.data_set = true,
             Word::Bare(syntax) => said.bare = Some(syntax),
@@ -315,6 +338,7 @@ pub fn said_by<'a>(tool: Tool, words: &'a [&'a [u8]]) -> Result<Said<'a>, Usage>
                 said.key = Some(key_after(words, i)?);
                 i += 1;
             }
+            Word::Overwrite => said.overwrites = true,
             Word::Accepted => {}
             Word::Path => said.paths = and_path(said.paths, word),
             Word::Unknown => return Err(Usage::AtWord(WordFault::UnknownOption, i + 2)),

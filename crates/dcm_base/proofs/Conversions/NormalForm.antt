@@ -3,6 +3,7 @@ use Rattle.std.proofs.Common.{◌≡◌, ℕ, ◌%◌, List, [], ◌∷◌, ◌+
 use Rattle.std.specs.Prelude.{◌==◌, ◌&&◌, if◌then◌else◌, nat_lt}
 use Rattle.std.proofs.lemmas.Bool.Decides.{nat_tests}
 use Rattle.std.proofs.lemmas.Bool.{eqb-true}
+use Rattle.dcm_lemmas.proofs.Lists.{joined_alike}
 use Rattle.dcm_base.specs.declared.tag.Tag.{Tag}
 use Rattle.dcm_base.specs.declared.vr.Vr.{Vr}
 use Rattle.dcm_base.specs.declared.vr.Vr.TheVariants.{SQ, UN}
@@ -87,21 +88,18 @@ explicit_same s vr n u false e l = by_test (too_long s vr (even n)) (same_size s
     by_test true k = absurd (cc)
     by_test false k = ap (evened (pad vr)) (order_twice s vr u) ∙ evened_same (pad vr) u n l
 
-both : {a b c d : List ℕ} → a ≡ b → c ≡ d → a ++ c ≡ b ++ d
-both p q = cc
-
 -- a leaf that is written and read is written alike
 explicit_again : (s : Syntax) (t : Tag) (vr : Vr) (n m : ℕ) (u : List ℕ) (c : Bool) → too_long s vr n ≡ c → length u ≡ even n → m ≡ even n
     → leaf_head s t (if c then UN else vr) m ++ evened (pad (if c then UN else vr)) (leaf_bytes s (if c then UN else vr) m (order s (if c then UN else vr) u)) ≡ head s t (if c then UN else vr) (Known (even n)) ++ u
 explicit_again s t vr n m u c e l k =
     ap (λ (x : ℕ). leaf_head s t (if c then UN else vr) x ++ evened (pad (if c then UN else vr)) (leaf_bytes s (if c then UN else vr) x (order s (if c then UN else vr) u))) k
-    ∙ both (head_again s t vr n c e) (explicit_same s vr n u c e l)
+    ∙ joined_alike (head_again s t vr n c e) (explicit_same s vr n u c e l)
 
 pub leaf_again : (s : Syntax) (t : Tag) (vr : Vr) (v : List ℕ) → recoded_leaf s t (normal_vr s t vr (length v)) (normal_value s t vr v) ≡ recoded_leaf s t vr v
 leaf_again (implicit_in d) t vr v =
     let u : List ℕ = evened (pad vr) v in
     let size : length u ≡ even (length v) = evened_size (pad vr) v in
-    both (ap (λ (k : ℕ). head (implicit_in d) t vr (Known (even k))) size ∙ ap (λ (k : ℕ). head (implicit_in d) t vr (Known k)) (even_even (length v))) (evened_same (pad (normal_vr (implicit_in d) t vr (length v))) u (length v) size)
+    joined_alike (ap (λ (k : ℕ). head (implicit_in d) t vr (Known (even k))) size ∙ ap (λ (k : ℕ). head (implicit_in d) t vr (Known k)) (even_even (length v))) (evened_same (pad (normal_vr (implicit_in d) t vr (length v))) u (length v) size)
 leaf_again (little_in d) t vr v =
     let u : List ℕ = evened (pad vr) (leaf_bytes (little_in d) vr (length v) v) in
     explicit_again (little_in d) t vr (length v) (length (normal_value (little_in d) t vr v)) u (too_long (little_in d) vr (length v)) refl (evened_size (pad vr) (leaf_bytes (little_in d) vr (length v) v) ∙ ap even (leaf_size (little_in d) vr (length v) v)) (normal_size (little_in d) t vr v)
@@ -111,14 +109,14 @@ leaf_again (big_in d) t vr v =
 
 -- ---- fragments
 
-fragment_again : (s : Syntax) (v : List ℕ) → recoded_fragment s (evened 0 v) ≡ recoded_fragment s v
+pub fragment_again : (s : Syntax) (v : List ℕ) → recoded_fragment s (evened 0 v) ≡ recoded_fragment s v
 fragment_again s v =
     let size : length (evened 0 v) ≡ even (length v) = evened_size 0 v in
-    both (ap (λ (k : ℕ). item_head s (Known (even k))) size ∙ ap (λ (k : ℕ). item_head s (Known k)) (even_even (length v))) (evened_same 0 (evened 0 v) (length v) size)
+    joined_alike (ap (λ (k : ℕ). item_head s (Known (even k))) size ∙ ap (λ (k : ℕ). item_head s (Known k)) (even_even (length v))) (evened_same 0 (evened 0 v) (length v) size)
 
-fragments_again : (s : Syntax) (values : List (List ℕ)) → flat_map (recoded_fragment s) (map (evened 0) values) ≡ flat_map (recoded_fragment s) values
+pub fragments_again : (s : Syntax) (values : List (List ℕ)) → flat_map (recoded_fragment s) (map (evened 0) values) ≡ flat_map (recoded_fragment s) values
 fragments_again s [] = refl
-fragments_again s (v ∷ values) = both (fragment_again s v) (fragments_again s values)
+fragments_again s (v ∷ values) = joined_alike (fragment_again s v) (fragments_again s values)
 
 -- ---- data sets
 
@@ -134,7 +132,7 @@ kept_bytes : (s : Syntax) (t : Tag) (tree : Trees → Trees) (x y : List ℕ) (m
     → recode_set s (tree more) ≡ unless_dropped t x ++ recode_set s more → x ≡ y → recode_set s more ≡ others
     → recode_set s (if c then more else tree more) ≡ (if c then [] else y) ++ others
 kept_bytes s t tree x y more others true e is same rest = rest
-kept_bytes s t tree x y more others false e is same rest = is ∙ ap (λ (c : Bool). (if c then [] else x) ++ recode_set s more) e ∙ both same rest
+kept_bytes s t tree x y more others false e is same rest = is ∙ ap (λ (c : Bool). (if c then [] else x) ++ recode_set s more) e ∙ joined_alike same rest
 
 mutual
   unfolding recode_set
@@ -181,7 +179,7 @@ mutual
 
   pub items_normal : (s : Syntax) (items : Items) → recode_items s (normal_items s items) ≡ recode_items s items
   items_normal s no_item = refl
-  items_normal s (item declared set rest) = both (ap (λ x. item_head s Undefined ++ x ++ item_delimiter s) (recodes_normal s set)) (items_normal s rest)
+  items_normal s (item declared set rest) = joined_alike (ap (λ x. item_head s Undefined ++ x ++ item_delimiter s) (recodes_normal s set)) (items_normal s rest)
 
 -- ---- a normal form has no other
 
@@ -266,7 +264,7 @@ dropped_own s t v x e = ap (λ (d : Dictionary). read_by d s) (dropped_dictionar
 leaves_alike : (t : Tag) (v w : Vr) (x y : List ℕ) (more : Trees) → v ≡ w → x ≡ y → leaf t v x more ≡ leaf t w y more
 leaves_alike t v w x y more p q = cc
 
-items_alike : (a b : Trees) (c d : Items) → a ≡ b → c ≡ d → item Undefined a c ≡ item Undefined b d
+pub items_alike : (a b : Trees) (c d : Items) → a ≡ b → c ≡ d → item Undefined a c ≡ item Undefined b d
 items_alike a b c d p q = cc
 
 mutual

@@ -124,7 +124,7 @@ module _ (k : ℕ) (some : 0 < k) (f : List ℕ → List ℕ) (cons : (u w : Lis
   pub units_kept : (v : List ℕ) → units k (f v) ≡ map f (units k v)
   units_kept v = kept_within (length v) v (omega arith)
 
-four_cons : (u w : List ℕ) → length u ≡ 4 → turned 2 (u ++ w) ≡ turned 2 u ++ turned 2 w
+pub four_cons : (u w : List ℕ) → length u ≡ 4 → turned 2 (u ++ w) ≡ turned 2 u ++ turned 2 w
 four_cons u w e =
     let a : List ℕ = take 2 u in
     let b : List ℕ = drop 2 u in

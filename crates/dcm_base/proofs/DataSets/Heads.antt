@@ -1,7 +1,9 @@
 -- What stands at the front of bytes is one head.
-use Rattle.std.proofs.Common.{◌≡◌, ◌≢◌, ℕ, ◌≤◌, List, length, drop, Some, Bool, true, false, cond, ◌&&◌, ◌||◌, eqb, refl, sym, ap, ◌∙◌, subst, arith}
+use Rattle.std.proofs.Common.{◌≡◌, ◌≢◌, ℕ, ◌≤◌, List, length, drop, Bool, true, false, cond, ◌||◌, eqb, refl, sym, ap, ◌∙◌, subst, arith}
 use Rattle.std.specs.Bool.{MatchBool}
 use Rattle.std.proofs.lemmas.Bool.{eqb-true}
+use Rattle.dcm_lemmas.proofs.Options.{some_same}
+use Rattle.dcm_lemmas.proofs.Truth.{and_parts}
 use Rattle.dcm_base.specs.declared.tag.Tag.{Tag}
 use Rattle.dcm_base.specs.declared.vr.Vr.{Vr}
 use Rattle.dcm_base.specs.declared.vr.Vr.TheVariants.{UN}
@@ -17,9 +19,6 @@ use Rattle.dcm_base.specs.Tables.Tag.{is_item, is_item_end, is_sequence_end, ite
 -- the size of a known length
 pub known_same : (m n : ℕ) → Known m ≡ Known n → m ≡ n
 known_same m n e = cc
-
-pub some_same : {A : Type 0} (x y : A) → Some x ≡ Some y → x ≡ y
-some_same x y e = cc
 
 pub record SameHead (t u : Tag) (v w : Vr) (l m : Length) (c d : List ℕ) : Type 0 where
   pub tags : t ≡ u
@@ -74,13 +73,9 @@ item_begins s l b c p none = none p.whole (sym p.tag_is)
 
 -- ---- heads of any tag
 
-both_true : (a b : Bool) → (a && b) ≡ true → (a ≡ true) × (b ≡ true)
-both_true true b e = (refl, e)
-both_true false b e = absurd cc
-
 pub is_tag_true : (g e : ℕ) (t : Tag) → is_tag g e t ≡ true → t ≡ record { group = g; element = e }
 is_tag_true g e t h =
-    let both = both_true (eqb t.group g) (eqb t.element e) h in
+    let both = and_parts (eqb t.group g) (eqb t.element e) h in
     let group = eqb-true t.group g both.0 in
     let element = eqb-true t.element e both.1 in
     λ i. record { group = group i; element = element i }

@@ -1,21 +1,18 @@
 -- The reading of a data set has one answer.
-use Rattle.std.proofs.Common.{◌≡◌, ℕ, ◌+◌, ◌-◌, ◌<◌, List, length, take, Option, Some, None, sym, ap, ◌∙◌, subst, arith, inl, inr}
+use Rattle.std.proofs.Common.{◌≡◌, ℕ, ◌+◌, ◌-◌, ◌<◌, List, length, take, sym, ap, ◌∙◌, subst, arith, inl, inr}
 use Rattle.std.proofs.lemmas.Bool.{cases_lt}
+use Rattle.dcm_lemmas.proofs.Options.{none_or_some, some_same}
 use Rattle.dcm_base.specs.declared.syntax.Syntax.{Syntax}
 use Rattle.dcm_base.specs.Tree.Front.{Front}
 use Rattle.dcm_base.specs.Bytes.Spelling.{SpellsFront}
 use Rattle.dcm_base.specs.Reading.Stop.{Stop, Bar, stop_at}
 use Rattle.dcm_base.specs.Reading.Reads.{StopsFirst, Reads, INPUT_LIMIT, told, ended}
-use Rattle.dcm_base.proofs.DataSets.Heads.{some_same}
 use Rattle.dcm_base.proofs.DataSets.Whole.{append_same}
 use Rattle.dcm_base.proofs.DataSets.Fronts.{front_same}
 
-none_some : {A : Type 0} (o : Option A) (x : A) → o ≡ None → o ≡ Some x → ⊥
-none_some o x p q = cc
-
 -- no stop is before the first
 not_before : (bar : Bar) (s : Syntax) (start : ℕ) (bytes : List ℕ) (f g : Front) (stop other : Stop) (x : StopsFirst bar s start bytes f stop) (y : StopsFirst bar s start bytes g other) → length x.read < length y.read → ⊥
-not_before bar s start bytes f g stop other x y lt = none_some _ stop (y.first x.read x.rest f x.parts lt x.spelled) x.stops
+not_before bar s start bytes f g stop other x y lt = none_or_some _ stop (y.first x.read x.rest f x.parts lt x.spelled) x.stops
 
 pub stops_once : (bar : Bar) (s : Syntax) (start : ℕ) (bytes : List ℕ) (f g : Front) (stop other : Stop) → StopsFirst bar s start bytes f stop → StopsFirst bar s start bytes g other → (f ≡ g) × (stop ≡ other)
 stops_once bar s start bytes f g stop other x y =

@@ -1,6 +1,6 @@
 -- A front as the path to its innermost open set, and how it grows by heads, bytes and ends.
 use Rattle.std.proofs.Common.{◌≡◌, ℕ, ◌≤◌, ◌<◌, List, [], ◌∷◌, ◌++◌, length, Option, Some, None, true, false, refl, sym, ap, subst, arith, length-append}
-use Rattle.std.proofs.lemmas.List.{append-nil, nil_from_length}
+use Rattle.std.proofs.lemmas.List.{append-nil}
 use Rattle.dcm_base.specs.declared.tag.Tag.{Tag}
 use Rattle.dcm_base.specs.declared.vr.Vr.{Vr}
 use Rattle.dcm_base.specs.declared.syntax.Syntax.{Syntax}
@@ -13,7 +13,7 @@ use Rattle.dcm_base.specs.Bytes.Head.{ElementHead, ItemHead, Delimiter}
 use Rattle.dcm_base.specs.Tables.Tag.{item_end_tag, sequence_end_tag}
 use Rattle.dcm_base.specs.Tree.Value.{order}
 use Rattle.dcm_base.specs.Bytes.Spelling.{a_value, a_sequence, a_fragment_list, form, inside, FragmentsAt, TreesAt, ItemsAt, reached_tag, is_open, StaysOpen, SpellsFront, SpellsOpen, after, after_trees, read_as}
-use Rattle.dcm_base.proofs.Conversions.Order.{order_twice, length-order}
+use Rattle.dcm_base.proofs.Conversions.Order.{order_twice, length-order, order_none}
 use Rattle.dcm_base.proofs.DataSets.Extend.{element_extends, item_extends, fragments_extend, trees_extend, items_extend}
 
 -- ---- more at the end
@@ -151,9 +151,6 @@ sequence_stands s path whole tag vr declared items b h stays =
 
 -- ---- heads and bytes
 
-pub order_nil : (s : Syntax) (vr : Vr) → order s vr [] ≡ []
-order_nil s vr = nil_from_length (order s vr []) (length-order s vr [])
-
 stays_nil : (declared : Length) → StaysOpen declared true []
 stays_nil (Known size) = omega arith
 stays_nil Undefined = tt
@@ -170,7 +167,7 @@ leaf_opens s path whole tag vr size b z h room fo head =
       d = z;
       path_at = path_extends s path b h.c z h.path_at room.0;
       trees_at = trees_before (syntax_of s path) whole h.c h.d z h.trees_at h.open_at;
-      open_at = (fo, omega arith, subst (λ (y : List ℕ). ElementHead (behind s path whole) tag vr (Known size) z y) (sym (order_nil (behind s path whole) vr)) head);
+      open_at = (fo, omega arith, subst (λ (y : List ℕ). ElementHead (behind s path whole) tag vr (Known size) z y) (sym (order_none (behind s path whole) vr)) head);
       stays = room.1;
     }
 

@@ -11,7 +11,7 @@ use Rattle.dcm_base.specs.Tables.Tag.{item_end_tag, sequence_end_tag}
 use Rattle.dcm_base.specs.Steps.Atoms.{Atom, closes_item, closes_sequence, ShowTrees, ShowItems, trees_then, items_then, end_atoms, MayEnd, MissesFragment, is_closed, Shows, ShowsOpen, ShowsOpenItem, front_atoms, open_atoms, open_item_atoms}
 
 -- what shows the contents shows what encloses them
-enclosed_shown : (s : Syntax) (end_tag : Tag) (declared : Length) (R : List ℕ → List ℕ → Type 0) (c e : List ℕ) (P : Type 0)
+pub enclosed_shown : (s : Syntax) (end_tag : Tag) (declared : Length) (R : List ℕ → List ℕ → Type 0) (c e : List ℕ) (P : Type 0)
     → ((b p : List ℕ) → R b p → P) → Enclosed s end_tag declared R c e → P
 enclosed_shown s end_tag (Known size) R c e P shown (i, ci, li, r) = shown i [] r
 enclosed_shown s end_tag Undefined R c e P shown (d, r, x) = shown c d r

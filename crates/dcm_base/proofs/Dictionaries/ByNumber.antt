@@ -1,6 +1,5 @@
 -- Rows whose numbers ascend and are at the places of their remainders, as those of the tables are, and what is found of them.
 use Rattle.std.proofs.Common.{◌≡◌, ℕ, zero, suc, ◌+◌, ◌<◌, Bool, true, false, ◌&&◌, ◌==◌, if◌then◌else◌, nat_lt, List, [], ◌∷◌, length, map, get_or, Option, Some, None, option_map, Bor, refl, sym, ap, subst, arith, ◌∙◌, ◌%◌}
-use mathlib.Core.Bool.{false≢true}
 use Rattle.std.specs.Prelude.{◌≢◌}
 use Rattle.std.specs.List.{slice_index}
 use Rattle.std.specs.List.Sorted.{IsStrictlyIncreasing}
@@ -8,6 +7,7 @@ use Rattle.std.proofs.lemmas.Bool.Decides.{nat_tests}
 use Rattle.std.proofs.lemmas.List.{get_or-map, length-map}
 use Rattle.std.proofs.lemmas.List.Kept.{AllPairs-from_increasing}
 use Rattle.std.proofs.lemmas.List.Recursion.{found_at, found_nowhere}
+use Rattle.dcm_lemmas.proofs.Truth.{and_second}
 use Rattle.dcm_base.specs.declared.vr.Vr.{Vr}
 use Rattle.dcm_base.specs.declared.vr.Vr.TheVariants.{AE}
 use Rattle.dcm_base.specs.Tables.Dictionary.{Element, elements, ambiguous, numbered, are_placed}
@@ -38,16 +38,12 @@ ascend (x ∷ xs) = ascend_from x xs
 first_above : (n x : ℕ) (b : Bool) → nat_lt n x && b ≡ true → n < x
 first_above n x b p = grind (arith, nat_tests)
 
-pub rest_passes : (a b : Bool) → a && b ≡ true → b ≡ true
-rest_passes true b p = p
-rest_passes false b p = absurd (false≢true p)
-
 increasing_from : (n : ℕ) (xs : List ℕ) → ascend_from n xs ≡ true → IsStrictlyIncreasing (n ∷ xs)
 increasing_from n [] p k within = absurd (omega arith)
 increasing_from n (x ∷ xs) p zero within = first_above n x _ p
 increasing_from n (x ∷ xs) p (suc k) within =
     let next : suc k + 1 ≡ suc (k + 1) = omega arith in
-    subst (λ m. slice_index (x ∷ xs) k < slice_index (n ∷ x ∷ xs) m) (sym next) (increasing_from x xs (rest_passes _ _ p) k (omega arith))
+    subst (λ m. slice_index (x ∷ xs) k < slice_index (n ∷ x ∷ xs) m) (sym next) (increasing_from x xs (and_second _ _ p) k (omega arith))
 
 pub increasing : (xs : List ℕ) → ascend xs ≡ true → IsStrictlyIncreasing xs
 increasing [] p = λ k within. absurd (omega arith)
@@ -89,7 +85,7 @@ placed_at places n i (x ∷ ns) p zero within same =
     let there : slice_index places (n % length places) ≡ i = subst (λ m. slice_index places (m % length places) ≡ i) same here in
     omega (arith, there)
 placed_at places n i (x ∷ ns) p (suc k) within same =
-    let next : slice_index places (n % length places) ≡ (i + 1) + k = placed_at places n (i + 1) ns (rest_passes _ _ p) k (omega arith) same in
+    let next : slice_index places (n % length places) ≡ (i + 1) + k = placed_at places n (i + 1) ns (and_second _ _ p) k (omega arith) same in
     let along : (i + 1) + k ≡ i + suc k = omega arith in
     next ∙ along
 

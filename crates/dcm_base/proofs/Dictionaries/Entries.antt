@@ -1,6 +1,5 @@
 -- What a binary search finds among the entries of the standard, whose numbers ascend, and what their keywords are.
-use Rattle.std.proofs.Common.{◌≡◌, ℕ, ◌<◌, ◌≤◌, Bool, true, false, ◌&&◌, ◌==◌, if◌then◌else◌, List, [], ◌∷◌, length, map, get_or, Option, Some, None, option_map, refl, ◌∙◌, sym, ap, subst, arith}
-use mathlib.Core.Bool.{false≢true}
+use Rattle.std.proofs.Common.{◌≡◌, ℕ, ◌<◌, ◌≤◌, Bool, true, false, ◌==◌, if◌then◌else◌, List, [], ◌∷◌, length, map, get_or, Option, Some, None, option_map, refl, ◌∙◌, sym, ap, subst, arith}
 use Rattle.std.specs.List.{HoldsAt, find, list_all}
 use Rattle.std.specs.List.Sorted.{IsStrictlyIncreasing, IsNonDecreasingBy, IsPartitionPoint}
 use Rattle.std.specs.Ordering.{nat_cmp, ordering_index}
@@ -10,19 +9,16 @@ use Rattle.std.proofs.lemmas.Cmp.{ranked}
 use Rattle.std.proofs.lemmas.List.{get_or-map, length-map}
 use Rattle.std.proofs.lemmas.List.Kept.{AllPairs-from_increasing}
 use Rattle.std.proofs.lemmas.List.Recursion.{found_at, found_nowhere}
+use Rattle.dcm_lemmas.proofs.Truth.{and_first, and_second}
 use Rattle.dcm_base.specs.declared.vr.Vr.{Vr}
 use Rattle.dcm_base.specs.declared.vr.Vr.TheVariants.{AE}
 use Rattle.dcm_base.specs.declared.dictionary.Dictionary.{Dictionary}
 use Rattle.dcm_base.specs.declared.dictionary.Dictionary.TheVariants.{Extract, Standard, Signed}
 use Rattle.dcm_base.specs.Tables.Dictionary.{Element, Entry, entries, keywords, keyword_of, element_of, elements_in, entry_of, fits, AllFit, numbered}
-use Rattle.dcm_base.proofs.Dictionaries.ByNumber.{ascend, increasing, numbers_ascend, rest_passes}
+use Rattle.dcm_base.proofs.Dictionaries.ByNumber.{ascend, increasing, numbers_ascend}
 
 abbrev no_entry : Entry
 no_entry = (0, AE, 0, 0)
-
-pub first_passes : (a b : Bool) → a && b ≡ true → a ≡ true
-first_passes true b p = refl
-first_passes false b p = absurd (false≢true p)
 
 -- the numbers of the table ascend
 entry_numbers_ascend : ascend (map (λ e. e.0) entries) ≡ true
@@ -41,10 +37,10 @@ pub all_fit : (text : List ℕ) (es : List Entry) → text ≡ keywords → es �
 all_fit text es here is = subst (λ es. AllFit text es) (sym is) (subst (λ text. AllFit text entries) (sym here) entries_fit)
 
 pub first_fits : (text : List ℕ) (e : Entry) (es : List Entry) → AllFit text (e ∷ es) → fits text e ≡ true
-first_fits text e es all = first_passes _ _ all
+first_fits text e es all = and_first _ _ all
 
 pub rest_fit : (text : List ℕ) (e : Entry) (es : List Entry) → AllFit text (e ∷ es) → AllFit text es
-rest_fit text e es all = rest_passes _ _ all
+rest_fit text e es all = and_second _ _ all
 
 -- what is found passes what all pass
 found_here : (test passes : Entry → Bool) (b : Bool) (e f : Entry) (rest : Option Entry) → passes e ≡ true → (rest ≡ Some f → passes f ≡ true) → (if b then Some e else rest) ≡ Some f → passes f ≡ true
@@ -53,7 +49,7 @@ found_here test passes false e f rest p q is = q is
 
 pub found_passes : (test passes : Entry → Bool) (es : List Entry) (f : Entry) → list_all passes es ≡ true → find test es ≡ Some f → passes f ≡ true
 found_passes test passes [] f all is = cc
-found_passes test passes (e ∷ es) f all is = found_here test passes (test e) e f (find test es) (first_passes _ _ all) (found_passes test passes es f (rest_passes _ _ all)) is
+found_passes test passes (e ∷ es) f all is = found_here test passes (test e) e f (find test es) (and_first _ _ all) (found_passes test passes es f (and_second _ _ all)) is
 
 -- an element is found as its entry is
 module _ (text : List ℕ) (n : ℕ) where

@@ -4,14 +4,13 @@ use Rattle.std.specs.Prelude.{find, option_map}
 use Rattle.std.specs.List.{list_all}
 use Rattle.std.specs.Option.{option_map_or}
 use Rattle.std.proofs.lemmas.Bool.Decides.{nat_tests}
+use Rattle.dcm_lemmas.proofs.Truth.{and_first, and_second}
 use Rattle.dcm_base.specs.declared.tag.Tag.{Tag}
 use Rattle.dcm_base.specs.declared.vr.Vr.{Vr}
 use Rattle.dcm_base.specs.declared.dictionary.Dictionary.{Dictionary}
 use Rattle.dcm_base.specs.declared.dictionary.Dictionary.TheVariants.{Extract, Standard, Signed}
 use Rattle.dcm_base.specs.Tables.Tag.{tag_number}
 use Rattle.dcm_base.specs.Tables.Dictionary.{Element, Entry, elements, entries, keywords, ambiguous, ambiguous_in, signed_vr, elements_in, element_of, element_in, numbered, keyword_in, is_private_creator, other_keyword}
-use Rattle.dcm_base.proofs.Dictionaries.ByNumber.{rest_passes}
-use Rattle.dcm_base.proofs.Dictionaries.Entries.{first_passes}
 
 -- the least number of the group of items
 items : ℕ
@@ -52,7 +51,7 @@ none_here false e rest p q = q
 
 none_of : (n : ℕ) → items ≤ n → (es : List Element) → list_all (λ (e : Element). is_below e.0) es ≡ true → numbered es n ≡ None
 none_of n above [] all = refl
-none_of n above (e ∷ es) all = none_here (e.0 == n) e (find (λ e. e.0 == n) es) (not_this e.0 n (first_passes _ _ all) above) (none_of n above es (rest_passes _ _ all))
+none_of n above (e ∷ es) all = none_here (e.0 == n) e (find (λ e. e.0 == n) es) (not_this e.0 n (and_first _ _ all) above) (none_of n above es (and_second _ _ all))
 
 none_ambiguous : (d : Dictionary) (t : Tag) → items ≤ tag_number t → ambiguous_in d t ≡ None
 none_ambiguous Extract t above = refl

@@ -1,8 +1,9 @@
 -- The lengths of keywords.
-use Rattle.std.proofs.Common.{◌≡◌, ◌≤◌, refl, subst, Bool, true, false, ◌&&◌, cond, List, [], ◌∷◌, ℕ, length, Option, Some, None, sym}
+use Rattle.std.proofs.Common.{◌≡◌, ◌≤◌, refl, subst, Bool, true, false, cond, List, [], ◌∷◌, ℕ, length, Option, Some, None, sym}
 use Rattle.std.specs.Prelude.{option_map, find, nat_le, ◌==◌}
 use Rattle.std.specs.List.{list_all}
 use Rattle.std.proofs.lemmas.Bool.{leb-true}
+use Rattle.dcm_lemmas.proofs.Truth.{and_first, and_second}
 use Rattle.dcm_base.specs.declared.tag.Tag.{Tag}
 use Rattle.dcm_base.specs.declared.vr.Vr.{Vr}
 use Rattle.dcm_base.specs.Tables.Tag.{tag_number}
@@ -11,21 +12,12 @@ use Rattle.dcm_base.specs.declared.dictionary.Dictionary.{Dictionary}
 use Rattle.dcm_base.specs.declared.dictionary.Dictionary.TheVariants.{Extract, Standard, Signed}
 use Rattle.dcm_base.proofs.Dictionaries.Lines.{standard_keywords, standard_has}
 
--- what each row has, the one that is found has
-and_one : (a b : Bool) → (a && b) ≡ true → a ≡ true
-and_one true b p = refl
-and_one false b p = cc
-
-and_two : (a b : Bool) → (a && b) ≡ true → b ≡ true
-and_two true b p = p
-and_two false b p = cc
-
 pub found_has : (p q : Element → Bool) (l : List Element) (e : Element) → list_all q l ≡ true → find p l ≡ Some e → q e ≡ true
 found_has p q [] e a f = cc
-found_has p q (x ∷ l) e a f = by_test (p x) f (found_has p q l e (and_two (q x) _ a))
+found_has p q (x ∷ l) e a f = by_test (p x) f (found_has p q l e (and_second (q x) _ a))
   where
     by_test : (t : Bool) → cond t (Some x) (find p l) ≡ Some e → (find p l ≡ Some e → q e ≡ true) → q e ≡ true
-    by_test true g more = let same : x ≡ e = cc in subst (λ y. q y ≡ true) same (and_one _ _ a)
+    by_test true g more = let same : x ≡ e = cc in subst (λ y. q y ≡ true) same (and_first _ _ a)
     by_test false g more = more g
 
 fits : List ℕ → Bool

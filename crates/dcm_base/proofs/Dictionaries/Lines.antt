@@ -3,12 +3,11 @@ use Rattle.std.proofs.Common.{◌≡◌, ℕ, ◌+◌, ◌-◌, ◌≤◌, Bool,
 use Rattle.std.specs.Prelude.{codes, bytes_eq}
 use Rattle.std.proofs.lemmas.Slice.Eq.{bytes_eq-Decides}
 use Rattle.std.specs.List.{list_all}
-use Rattle.std.proofs.lemmas.Bool.Decides.{nat_tests}
+use Rattle.dcm_lemmas.proofs.Numbers.{is_within}
+use Rattle.dcm_lemmas.proofs.Truth.{and_first, and_second}
 use Rattle.dcm_base.specs.Tables.Dictionary.{Element, Entry, entries, keywords, keyword_of, element_of, elements_in}
 use Rattle.dcm_base.specs.Laws.{is_line, as_line}
 use Rattle.dcm_base.specs.declared.dictionary.Dictionary.TheVariants.{Standard}
-use Rattle.dcm_base.proofs.Dictionaries.ByNumber.{rest_passes}
-use Rattle.dcm_base.proofs.Dictionaries.Entries.{first_passes}
 
 -- the keywords of entries whose keywords follow one another, cut from the text from a place on
 abbrev pub cut : ℕ → List Entry → List ℕ → List (List ℕ)
@@ -19,9 +18,6 @@ abbrev rises : ℕ → List Entry → Bool
 rises at [] = true
 rises at (e ∷ es) = nat_le at e.2 && rises e.2 es
 
-le_of : (a b : ℕ) → nat_le a b ≡ true → a ≤ b
-le_of a b p = grind (arith, nat_tests)
-
 on_to : (text : List ℕ) (at to : ℕ) → at ≤ to → drop (to - at) (drop at text) ≡ drop to text
 on_to text at to le = let sum : at + (to - at) ≡ to = omega arith in drop-drop (to - at) at text ∙ ap (λ n. drop n text) sum
 
@@ -31,8 +27,8 @@ same_piece start size text rest is = let same : size ≡ start + size - start = 
 pub cut_is : (text : List ℕ) (at : ℕ) (es : List Entry) → rises at es ≡ true → cut at es (drop at text) ≡ map (keyword_of text) es
 cut_is text at [] p = refl
 cut_is text at (e ∷ es) p =
-    let here = on_to text at e.2 (le_of _ _ (first_passes _ _ p)) in
-    ap₂ (λ k ks. k ∷ ks) (same_piece e.2 e.3 text _ here) (ap (cut e.2 es) here ∙ cut_is text e.2 es (rest_passes _ _ p))
+    let here = on_to text at e.2 (is_within _ _ (and_first _ _ p)) in
+    ap₂ (λ k ks. k ∷ ks) (same_piece e.2 e.3 text _ here) (ap (cut e.2 es) here ∙ cut_is text e.2 es (and_second _ _ p))
 
 pub keywords_rise : rises 0 entries ≡ true
 unfolding entries

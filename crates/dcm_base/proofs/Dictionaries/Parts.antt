@@ -2,6 +2,7 @@
 use Rattle.std.proofs.Common.{◌≡◌, ℕ, Bool, true, false, ◌&&◌, ◌==◌, if◌then◌else◌, List, [], ◌∷◌, map, Option, Some, refl, ◌∙◌, sym, ap, subst, eqb-true}
 use Rattle.std.specs.Prelude.{find, option_map}
 use Rattle.std.specs.List.{list_all}
+use Rattle.dcm_lemmas.proofs.Lists.{heads_alike, tails_alike}
 use Rattle.dcm_base.specs.declared.vr.Vr.{Vr}
 use Rattle.dcm_base.specs.declared.tag.Tag.{Tag}
 use Rattle.dcm_base.specs.declared.dictionary.Dictionary.{Dictionary}
@@ -35,12 +36,6 @@ extract_found : looked_up (with_keywords entries standard_keywords) elements ≡
 unfolding elements entries keywords
 extract_found = refl
 
-first_alike : {A : Type 0} (x y : A) (xs ys : List A) → x ∷ xs ≡ y ∷ ys → x ≡ y
-first_alike x y xs ys p = cc
-
-rest_alike : {A : Type 0} (x y : A) (xs ys : List A) → x ∷ xs ≡ y ∷ ys → xs ≡ ys
-rest_alike x y xs ys p = cc
-
 module _ (table : List Element) (n : ℕ) (e : Vr × List ℕ) where
   part_step : (b : Bool) (x : Element) (es : List Element) → (b ≡ true → x.0 ≡ n) → numbered table x.0 ≡ said x → (numbered es n ≡ Some e → numbered table n ≡ Some e) → option_map (λ e. (e.1, e.2)) (if b then Some x else find (λ e. e.0 == n) es) ≡ Some e → numbered table n ≡ Some e
   part_step true x es same here later p = subst (λ (m : ℕ). numbered table m ≡ Some e) (same refl) (here ∙ p)
@@ -49,7 +44,7 @@ module _ (table : List Element) (n : ℕ) (e : Vr × List ℕ) where
   part : (es : List Element) → looked_up table es ≡ map said es → numbered es n ≡ Some e → numbered table n ≡ Some e
   part [] all p = absurd cc
   part (x ∷ es) all p =
-      part_step (x.0 == n) x es (eqb-true x.0 n) (first_alike _ _ _ _ all) (part es (rest_alike _ _ _ _ all)) p
+      part_step (x.0 == n) x es (eqb-true x.0 n) (heads_alike _ _ _ _ all) (part es (tails_alike _ _ _ _ all)) p
 
 -- what the extract says of a tag, the standard says of it
 pub extract_is_part : (t : Tag) (e : Vr × List ℕ) → element_in Extract t ≡ Some e → element_in Standard t ≡ Some e

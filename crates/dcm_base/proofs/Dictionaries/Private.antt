@@ -4,13 +4,13 @@ use mathlib.Core.Bool.{false≢true}
 use Rattle.std.specs.List.{find, list_all}
 use Rattle.std.proofs.lemmas.Bool.{eqb-true}
 use Rattle.std.proofs.lemmas.Nat.{div-mul-add}
+use Rattle.dcm_lemmas.proofs.Truth.{and_first, and_second}
 use Rattle.dcm_base.specs.declared.tag.Tag.{Tag}
 use Rattle.dcm_base.specs.declared.vr.Vr.{Vr}
 use Rattle.dcm_base.specs.declared.dictionary.Dictionary.TheVariants.{Standard}
 use Rattle.dcm_base.specs.Tables.Tag.{tag_number, is_private}
 use Rattle.dcm_base.specs.Tables.Dictionary.{Element, Entry, entries, keywords, elements_in, element_in, ambiguous, ambiguous_in, entry_of, numbered}
-use Rattle.dcm_base.proofs.Dictionaries.ByNumber.{rest_passes}
-use Rattle.dcm_base.proofs.Dictionaries.Entries.{first_passes, element_is}
+use Rattle.dcm_base.proofs.Dictionaries.Entries.{element_is}
 
 -- the number is of an even group
 is_public : ℕ → Bool
@@ -42,7 +42,7 @@ module _ {A : Type 0} (number : A → ℕ) (n : ℕ) (odd : is_public n ≡ fals
 
   none_found : (xs : List A) → list_all (λ x. is_public (number x)) xs ≡ true → find (λ x. number x == n) xs ≡ None
   none_found [] all = refl
-  none_found (x ∷ xs) all = passed_by (number x == n) x (find (λ y. number y == n) xs) (differ_by (number x == n) (number x) n refl (first_passes _ _ all) odd) (none_found xs (rest_passes _ _ all))
+  none_found (x ∷ xs) all = passed_by (number x == n) x (find (λ y. number y == n) xs) (differ_by (number x == n) (number x) n refl (and_first _ _ all) odd) (none_found xs (and_second _ _ all))
 
 -- a private tag is in no table
 pub private_unlisted : (t : Tag) → t.element < 65536 → is_private t ≡ true → None ≡ element_in Standard t

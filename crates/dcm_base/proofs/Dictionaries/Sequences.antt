@@ -3,7 +3,7 @@ use Rattle.std.proofs.Common.{◌≡◌, ℕ, Bool, true, false, ◌==◌, if◌
 use Rattle.std.specs.List.{find, list_all}
 use Rattle.std.specs.Option.{option_map_or}
 use Rattle.std.specs.Prelude.{not}
-use mathlib.Core.Bool.{false≢true}
+use Rattle.dcm_lemmas.proofs.Truth.{and_first, and_second, not_true}
 use Rattle.dcm_base.specs.declared.tag.Tag.{Tag}
 use Rattle.dcm_base.specs.declared.vr.Vr.{Vr}
 use Rattle.dcm_base.specs.declared.vr.Vr.TheVariants.{SQ, US, UN, UL, LO}
@@ -13,8 +13,6 @@ use Rattle.dcm_base.specs.Tables.Representation.{is_sequence}
 use Rattle.dcm_base.specs.Bytes.Spelling.{read_in}
 use Rattle.dcm_base.specs.Tables.Tag.{tag_number}
 use Rattle.dcm_base.specs.Tables.Dictionary.{Element, ambiguous, ambiguous_in, element_in, elements_in, is_group_length, is_private_creator, numbered, signed_vr, unlisted_vr, vr_in}
-use Rattle.dcm_base.proofs.Dictionaries.ByNumber.{rest_passes}
-use Rattle.dcm_base.proofs.Dictionaries.Entries.{first_passes}
 
 -- the first representation of two, or one that is no sequence
 abbrev vr_or : Option (Vr × List ℕ) → Vr → Vr
@@ -23,10 +21,6 @@ vr_or o other = option_map_or (λ e. e.0) o other
 pub no_other : (v : Vr) → (v ≡ SQ → ⊥) → is_sequence v ≡ false
 no_other SQ differs = absurd (differs refl)
 no_other _ differs = refl
-
-is_no_sequence : (b : Bool) → not b ≡ true → b ≡ false
-is_no_sequence false p = refl
-is_no_sequence true p = absurd (false≢true p)
 
 signed_alike : (v : Vr) → is_sequence (signed_vr v) ≡ is_sequence v
 signed_alike US = refl
@@ -50,8 +44,8 @@ module _ (n : ℕ) (other : Vr) (none : is_sequence other ≡ false) where
       → is_sequence (vr_or (numbered es n) other) ≡ false
   none_found [] all = none
   none_found (e ∷ es) all =
-      here_or_later (e.0 == n) e (find (λ e. e.0 == n) es) (is_no_sequence _ (first_passes _ _ all))
-      (none_found es (rest_passes _ _ all))
+      here_or_later (e.0 == n) e (find (λ e. e.0 == n) es) (not_true _ (and_first _ _ all))
+      (none_found es (and_second _ _ all))
 
 signed_row : (o : Option (Vr × List ℕ)) (other : Vr)
     → is_sequence (vr_or (option_map (λ e. (signed_vr e.0, e.1)) o) other) ≡ is_sequence (vr_or o other)

@@ -3,6 +3,7 @@ use Rattle.std.proofs.Common.{◌≡◌, ℕ, ◌<◌, List, [], ◌∷◌, leng
 use Rattle.std.specs.Prelude.{if◌then◌else◌, ◌==◌, nat_lt}
 use Rattle.std.specs.Char.{digit_value}
 use Rattle.std.proofs.lemmas.Bool.Decides.{nat_tests}
+use Rattle.dcm_lemmas.proofs.Options.{some_is}
 use Rattle.dcm_base.specs.declared.tag.Tag.{Tag}
 use Rattle.dcm_base.specs.Lines.ReadValue.{◌>>=◌, digit, number_in, hex_number, tag_of_text}
 
@@ -14,9 +15,6 @@ bind_some None f y p = cc
 pub if_some : {A : Type 0} (c : Bool) (o : Option A) (y : A) → (if c then o else None) ≡ Some y → (c ≡ true) × (o ≡ Some y)
 if_some true o y p = (refl, p)
 if_some false o y p = cc
-
-some_is : {A : Type 0} (x y : A) → (let o : Option A = Some x in o ≡ Some y) → x ≡ y
-some_is x y p = cc
 
 digit_below : (base c d : ℕ) → digit base c ≡ Some d → d < base
 digit_below base c d p =

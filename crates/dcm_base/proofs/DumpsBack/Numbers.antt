@@ -2,7 +2,7 @@
 use Rattle.std.proofs.Common.{◌≡◌, ℕ, zero, suc, ◌≤◌, ◌<◌, ◌+◌, ◌-◌, ◌*◌, ◌/◌, ◌%◌, ◌^◌, List, [], ◌∷◌, ◌++◌, length, map, take, drop, reverse, Some, None, Bool, true, false, refl, sym, ◌∙◌, ap, subst, arith, decimal, fold, flat_map}
 use Rattle.std.specs.Prelude.{if◌then◌else◌, nat_lt, nat_le, ◌==◌, ◌&&◌}
 use Rattle.std.specs.Fmt.{digits}
-use Rattle.std.specs.Int.{byte_at, bytes_low_first}
+use Rattle.std.specs.Int.{bytes_low_first}
 use Rattle.std.specs.Int.Digits.{AllBelowBase, digits_of, number_from_digits_after}
 use Rattle.std.proofs.lemmas.Bool.Decides.{nat_tests}
 use Rattle.std.proofs.lemmas.Fmt.{decimal-digits_of, decimal_nonempty, length-decimal-le}
@@ -11,6 +11,9 @@ use Rattle.std.proofs.lemmas.List.{length-reverse, length-map, reverse-append}
 use Rattle.std.proofs.lemmas.List.Sums.{fold-append}
 use Rattle.std.proofs.Math.Nat.{pow-suc, div-div-eq-div-mul, mod-eq_of_lt}
 use Rattle.byteorder.specs.Endian.{little_bytes}
+use Rattle.dcm_lemmas.proofs.Lists.{cons_alike}
+use Rattle.dcm_lemmas.proofs.Numbers.{byte_is}
+use Rattle.dcm_lemmas.proofs.Choice.{if_false, if_true}
 use Rattle.dcm_base.specs.Lines.ReadValue.{◌>>=◌, tag_value, digit, number_in, decimal_number, hex_number, hex_value, signed_value, positive_value, negative_value, unsigned_value, only_if}
 use Rattle.dcm_base.specs.declared.tag.Tag.{Tag}
 use Rattle.dcm_base.specs.Tree.Value.{number_of}
@@ -18,13 +21,6 @@ use Rattle.dcm_base.specs.Dump.ValueText.{lower, hex_byte, hex_word, signed_text
 use Rattle.dcm_base.proofs.DumpsBack.Texts.{Bytes, lower_digit}
 
 -- ---- the bytes of a number
-
-byte_is : (i n : ℕ) → byte_at i n ≡ n / 256 ^ i % 256
-byte_is zero n = omega arith
-byte_is (suc i) n = refl
-
-cons_alike : (a b : ℕ) (u v : List ℕ) → a ≡ b → u ≡ v → a ∷ u ≡ b ∷ v
-cons_alike a b u v p q = cc
 
 -- ---- decimal numbers
 
@@ -45,9 +41,6 @@ decimal_in (suc n) l =
     ap (number_in 10 0) (decimal-digits_of (suc n) (omega arith) l)
     ∙ digits_in 0 (digits_of 10 (suc n)) (all_below_base_digits_of 10 (suc n) (omega arith))
     ∙ ap Some (number_digits_of 10 (suc n) (omega arith))
-
-if_true : {A : Type 0} (b : Bool) (x y : A) → b ≡ true → (if b then x else y) ≡ x
-if_true b x y p = rw p refl
 
 between : (l : ℕ) → 0 < l → l ≤ 20 → (nat_le 1 l && nat_le l 20) ≡ true
 between l p q = grind (arith, nat_tests)
@@ -152,9 +145,6 @@ decimal_no_sign (suc n) l =
     let e : decimal (suc n) ≡ map (λ d. 48 + d) ds = decimal-digits_of (suc n) (omega arith) l in
     let some : 0 < length ds = omega (arith, decimal_nonempty (suc n) l, ap length e, length-map ds (λ d. 48 + d)) in
     subst NoSign (sym e) (digits_no_sign ds some)
-
-if_false : {A : Type 0} (b : Bool) (x y : A) → b ≡ false → (if b then x else y) ≡ y
-if_false b x y p = rw p refl
 
 signed_plain : (size : ℕ) (cs : List ℕ) → NoSign cs → signed_value size cs ≡ positive_value size cs
 unfolding NoSign

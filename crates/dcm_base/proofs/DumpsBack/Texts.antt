@@ -2,6 +2,7 @@
 use Rattle.std.proofs.Common.{◌≡◌, ℕ, suc, ◌<◌, ◌+◌, ◌*◌, ◌/◌, ◌%◌, List, [], ◌∷◌, ◌++◌, length, Some, Bool, true, false, refl, ◌∙◌, ap, arith, append_assoc, length-append}
 use Rattle.std.specs.Prelude.{if◌then◌else◌, nat_lt, ◌==◌, ◌||◌}
 use Rattle.std.proofs.lemmas.Bool.Decides.{nat_tests}
+use Rattle.dcm_lemmas.proofs.Truth.{or_last_false}
 use Rattle.dcm_base.specs.Tables.Number.{AreBytes}
 use Rattle.dcm_base.specs.Lines.ReadValue.{◌>>=◌, digit, number_in, hex_number, bracketed_value}
 use Rattle.dcm_base.specs.Dump.ValueText.{lower, upper, escape, escaped}
@@ -31,7 +32,7 @@ two_digits x y d e p q =
 halves : (b : ℕ) → (0 * 16 + b / 16) * 16 + b % 16 ≡ b
 halves b = omega arith
 
-byte_digits : (b : ℕ) → b < 256 → hex_number 2 (upper (b / 16) ∷ upper (b % 16) ∷ []) ≡ Some b
+pub byte_digits : (b : ℕ) → b < 256 → hex_number 2 (upper (b / 16) ∷ upper (b % 16) ∷ []) ≡ Some b
 byte_digits b l =
     two_digits (upper (b / 16)) (upper (b % 16)) (b / 16) (b % 16) (upper_digit (b / 16) (omega (arith, l))) (upper_digit (b % 16) (omega arith)) ∙ ap Some (halves b)
 
@@ -41,12 +42,6 @@ plain : (c : ℕ) (w : List ℕ) → 0 < length w → (c == 93) ≡ false → (c
 plain c [] l p q = absurd (omega (arith, l))
 plain c (d ∷ []) l p q = rw (p, q) refl
 plain c (d ∷ e ∷ w) l p q = rw (p, q) refl
-
-or_last : (a b c d : Bool) → (a || b || c || d) ≡ false → d ≡ false
-or_last true b c d p = cc
-or_last false true c d p = cc
-or_last false false true d p = cc
-or_last false false false d p = p
 
 or_third : (a b c d : Bool) → (a || b || c || d) ≡ false → c ≡ false
 or_third true b c d p = cc
@@ -59,7 +54,7 @@ one_more b r v l p q = by_test (nat_lt b 32 || b == 127 || b == 37 || b == 93) r
   where
     by_test : (t : Bool) → (nat_lt b 32 || b == 127 || b == 37 || b == 93) ≡ t → bracketed_value ((if t then 37 ∷ upper (b / 16) ∷ upper (b % 16) ∷ [] else b ∷ []) ++ r) ≡ Some (b ∷ v)
     by_test true e = ap (λ o. o >>= λ x. bracketed_value r >>= λ m. Some (x ∷ m)) (byte_digits b l) ∙ ap (λ o. o >>= λ m. Some (b ∷ m)) q
-    by_test false e = plain b r p (or_last (nat_lt b 32) (b == 127) (b == 37) (b == 93) e) (or_third (nat_lt b 32) (b == 127) (b == 37) (b == 93) e) ∙ ap (λ o. o >>= λ m. Some (b ∷ m)) q
+    by_test false e = plain b r p (or_last_false (nat_lt b 32) (b == 127) (b == 37) (b == 93) e) (or_third (nat_lt b 32) (b == 127) (b == 37) (b == 93) e) ∙ ap (λ o. o >>= λ m. Some (b ∷ m)) q
 
 some_left : (r : List ℕ) → 0 < length (r ++ 93 ∷ [])
 some_left r = omega (arith, length-append r (93 ∷ []))

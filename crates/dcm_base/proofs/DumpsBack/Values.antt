@@ -1,6 +1,6 @@
 -- The text of a value stands for the value.
 use Rattle.std.proofs.Common.{◌≡◌, ℕ, zero, suc, ◌≤◌, ◌<◌, ◌+◌, ◌-◌, ◌*◌, ◌/◌, ◌%◌, ◌^◌, List, [], ◌∷◌, ◌++◌, length, map, take, drop, reverse, Option, Some, None, Bool, true, false, ◌&&◌, ◌||◌, cond, refl, sym, ◌∙◌, ap, subst, arith, decimal, flat_map, length-append, codes}
-use Rattle.std.specs.Prelude.{if◌then◌else◌, ◌==◌, nat_le, nat_lt, slice_index, find, option_map, bytes_eq}
+use Rattle.std.specs.Prelude.{if◌then◌else◌, ◌==◌, nat_le, nat_lt, slice_index, find, bytes_eq}
 use Rattle.std.specs.Fmt.{digits}
 use Rattle.std.specs.List.{join_with_byte, list_all}
 use Rattle.std.specs.Option.{option_map_or}
@@ -11,6 +11,10 @@ use Rattle.std.proofs.lemmas.Int.Digits.{all_below_base_digits_of}
 use Rattle.std.proofs.lemmas.List.{length-reverse, length-take-le, length-drop}
 use Rattle.std.proofs.lemmas.Slice.Eq.{bytes_eq-Decides}
 use Rattle.std.proofs.Math.Nat.{mul-div_cancel, mul-le-mul, mul_comm, div-add-mod}
+use Rattle.dcm_lemmas.proofs.Numbers.{is_within}
+use Rattle.dcm_lemmas.proofs.Options.{mapped}
+use Rattle.dcm_lemmas.proofs.Choice.{if_true}
+use Rattle.dcm_lemmas.proofs.Truth.{and_first, and_second}
 use Rattle.dcm_base.specs.declared.vr.Vr.{Vr}
 use Rattle.dcm_base.specs.declared.vr.Vr.TheVariants.{AE, AS, AT, CS, DA, DS, DT, FD, FL, IS, LO, LT, OB, OD, OF, OL, OV, OW, PN, SH, SL, SQ, SS, ST, SV, TM, UC, UI, UL, UN, UR, US, UT, UV}
 use Rattle.dcm_base.specs.Tables.Representation.{is_sequence, pad}
@@ -23,9 +27,6 @@ use Rattle.dcm_base.proofs.DumpsBack.Numbers.{hex_back, signed_back, unsigned_ba
 use Rattle.dcm_base.proofs.DumpsBack.Parts.{Apart, Apart-append, IsPart, Each, Bytes-take, Bytes-drop, each_piece, parts_back, parts_within}
 
 -- ---- what a value reads as
-
-if_true : {A : Type 0} (b : Bool) (x y : A) → b ≡ true → (if b then x else y) ≡ x
-if_true b x y p = rw p refl
 
 abbrev none_text : List ℕ
 none_text = codes "(no value available)"
@@ -61,7 +62,7 @@ length-escape b = by_test (nat_lt b 32 || b == 127 || b == 37 || b == 93)
     by_test true = omega arith
     by_test false = omega arith
 
-length-escaped : (v : List ℕ) → length v ≤ length (escaped v)
+pub length-escaped : (v : List ℕ) → length v ≤ length (escaped v)
 length-escaped [] = omega arith
 length-escaped (b ∷ v) =
     let e : length (escape b ++ escaped v) ≡ length (escape b) + length (escaped v) = length-append (escape b) (escaped v) in
@@ -85,28 +86,13 @@ all_read_back : list_all reads_back uids ≡ true
 unfolding uids reads_back
 all_read_back = refl
 
-pub and_one : (a b : Bool) → (a && b) ≡ true → a ≡ true
-and_one true b p = refl
-and_one false b p = cc
-
-pub and_two : (a b : Bool) → (a && b) ≡ true → b ≡ true
-and_two true b p = p
-and_two false b p = cc
-
 pub found : (p q : Named → Bool) (l : List Named) (e : Named) → list_all q l ≡ true → find p l ≡ Some e → (q e ≡ true) × (p e ≡ true)
 found p q [] e a f = cc
-found p q (x ∷ l) e a f = by_test (p x) refl f (found p q l e (and_two (q x) _ a))
+found p q (x ∷ l) e a f = by_test (p x) refl f (found p q l e (and_second (q x) _ a))
   where
     by_test : (t : Bool) → t ≡ p x → cond t (Some x) (find p l) ≡ Some e → (find p l ≡ Some e → (q e ≡ true) × (p e ≡ true)) → (q e ≡ true) × (p e ≡ true)
-    by_test true t g more = let same : x ≡ e = cc in let P : Named → Type 0 = λ y. (q y ≡ true) × (p y ≡ true) in subst P same (and_one _ _ a, sym t)
+    by_test true t g more = let same : x ≡ e = cc in let P : Named → Type 0 = λ y. (q y ≡ true) × (p y ≡ true) in subst P same (and_first _ _ a, sym t)
     by_test false t g more = more g
-
-pub mapped : {A B : Type 0} (f : A → B) (o : Option A) (y : B) → option_map f o ≡ Some y → (x : A) × (o ≡ Some x) × (f x ≡ y)
-mapped f (Some x) y p = (x, refl, cc)
-mapped f None y p = cc
-
-within : (m n : ℕ) → nat_le m n ≡ true → m ≤ n
-within m n p = grind (arith, nat_tests, p)
 
 -- the name of an identifier leads back to it
 name_back : (uid name : List ℕ) → uid_name uid ≡ Some name → (uid_of name ≡ Some uid) × (length uid ≤ 64)
@@ -121,8 +107,8 @@ name_back uid name p =
         → (uid_in uids name ≡ Some uid) × (length uid ≤ 64)
     by_answer None u is named e t = cc
     by_answer (Some x) u is named e t =
-        let same : x ≡ uid = (bytes_eq-Decides x u.0).0 (and_one _ _ t) ∙ is in
-        (ap (uid_in uids) (sym named) ∙ e ∙ ap Some same, subst (λ (y : List ℕ). length y ≤ 64) same (within (length x) 64 (and_two (bytes_eq x u.0) _ t)))
+        let same : x ≡ uid = (bytes_eq-Decides x u.0).0 (and_first _ _ t) ∙ is in
+        (ap (uid_in uids) (sym named) ∙ e ∙ ap Some same, subst (λ (y : List ℕ). length y ≤ 64) same (is_within (length x) 64 (and_second (bytes_eq x u.0) _ t)))
 
 -- ---- units
 

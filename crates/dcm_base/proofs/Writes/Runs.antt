@@ -2,17 +2,14 @@
 use Rattle.std.proofs.Common.{◌≡◌, ◌∙◌, sym, ap, subst, refl, ℕ, List, [], ◌∷◌, ◌++◌, append_assoc}
 use Rattle.std.specs.Prelude.{fold, Option, Result, Ok, Err, OnOk, IsErr}
 use Rattle.std.specs.Io.KnownBytes.{append_known}
+use Rattle.dcm_lemmas.proofs.Options.{known_nothing, known_twice}
 use Rattle.dcm_devices.specs.Device.{Puts, AppendsFront}
-use Rattle.dcm_devices.proofs.Writes.Puts.{append_known_twice, append_known_none, front_longer, puts_behind}
+use Rattle.dcm_devices.proofs.Writes.Puts.{front_longer, puts_behind}
 use Rattle.std.proofs.lemmas.List.Sums.{fold-append}
 use Rattle.std.proofs.lemmas.List.{append-nil, take_all, take_more, take-append-drop, take-append-le}
-use Rattle.std.proofs.Common.{suc, ◌+◌, ◌<◌, ◌≤◌, length, take, drop, get_or, drop-cons, arith}
+use Rattle.std.proofs.Common.{suc, ◌+◌, ◌<◌, length, take, drop, get_or, drop-cons, arith}
 use Rattle.std.specs.List.{refill}
 use Rattle.dcm_base.specs.Steps.Steps.{outputs, Goes}
-
--- a list has no more than all of it
-pub take_within : (n : ℕ) (xs : List ℕ) → length xs ≤ n → take n xs ≡ xs
-take_within n xs h = take_all n xs h
 
 -- what is written over one list and then another
 pub outputs-append : {S A B : Type 0} (step : S → A → S) (writes : S → A → List B) (s : S) (xs ys : List A) → outputs step writes s (xs ++ ys) ≡ outputs step writes s xs ++ outputs step writes (fold step s xs) ys
@@ -32,7 +29,7 @@ module _ {S A : Type 0} (step : S → A → S) (writes : S → A → List ℕ) w
 
   -- nothing
   pub goes_nowhere : (E : Type 0) {T : Type 0} (s : S) (held : Option (List ℕ)) (x : T) → Goes {T = T} {E = E} step writes s held s held [] (Ok x)
-  goes_nowhere E s held x = (refl, sym (append_known_none held))
+  goes_nowhere E s held x = (refl, sym (known_nothing held))
 
   -- one part and then another
   pub goes_on : {T E : Type 0} (s : S) (held : Option (List ℕ)) (m : S) (mid : Option (List ℕ)) (t : S) (holds : Option (List ℕ)) (xs ys : List A) (r : Result T E) → m ≡ fold step s xs → mid ≡ append_known held (outputs step writes s xs) → Goes step writes m mid t holds ys r → Goes step writes s held t holds (xs ++ ys) r
@@ -63,7 +60,7 @@ module _ {S A : Type 0} (step : S → A → S) (writes : S → A → List ℕ) w
   goes_more s held m mid new xs i d h state went one =
       one
       ∙ ap (λ known. append_known known (writes m (get_or xs i d))) went
-      ∙ append_known_twice held (outputs step writes s (take i xs)) (writes m (get_or xs i d))
+      ∙ known_twice held (outputs step writes s (take i xs)) (writes m (get_or xs i d))
       ∙ ap (λ z. append_known held (outputs step writes s (take i xs) ++ writes z (get_or xs i d))) state
       ∙ ap (append_known held) (sym (outputs_more s xs i d h))
 
@@ -78,4 +75,4 @@ module _ {S A : Type 0} (step : S → A → S) (writes : S → A → List ℕ) w
 
 -- a slice that is written whole
 pub refill_whole : (xs ws : List ℕ) → length ws ≡ length xs → refill (length xs) xs ws ≡ ws
-refill_whole xs ws e = take-append-le (length xs) ws (drop (length ws) xs) (omega arith) ∙ take_within (length xs) ws (omega arith)
+refill_whole xs ws e = take-append-le (length xs) ws (drop (length ws) xs) (omega arith) ∙ take_all (length xs) ws (omega arith)

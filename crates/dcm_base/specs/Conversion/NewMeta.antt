@@ -1,5 +1,5 @@
 -- A meta group written anew, with a transfer syntax (PS3.10 7.1).
-use Rattle.std.specs.Prelude.{ℕ, if◌then◌else◌, List, ◌++◌, length, Option, None, Some}
+use Rattle.std.specs.Prelude.{◌≡◌, ℕ, if◌then◌else◌, List, ◌++◌, length, Option, None, Some}
 use Rattle.std.specs.Int.{w32, to_le_bytes}
 use Rattle.dcm_base.specs.declared.tag.Tag.{Tag}
 use Rattle.dcm_base.specs.declared.vr.Vr.{Vr}
@@ -47,9 +47,14 @@ abbrev pub leaf_if : Option (List ℕ) → Tag → Vr → Trees → Trees
 leaf_if None tag vr rest = rest
 leaf_if (Some value) tag vr rest = leaf tag vr value rest
 
--- the elements that stay, with their values
-abbrev pub renewed : Renewing → Trees → Trees
-renewed new no_tree = no_tree
-renewed new (leaf tag vr value rest) = leaf_if (new tag vr value) tag vr (renewed new rest)
-renewed new (sequence tag vr declared items rest) = sequence tag vr declared items (renewed new rest)
-renewed new (fragments tag vr values rest) = fragments tag vr values (renewed new rest)
+-- the elements that stay, with their values, and behind them elements of its own
+abbrev pub renewed : Renewing → (own : Trees) → Trees → Trees
+renewed new own no_tree = own
+renewed new own (leaf tag vr value rest) = leaf_if (new tag vr value) tag vr (renewed new own rest)
+renewed new own (sequence tag vr declared items rest) = sequence tag vr declared items (renewed new own rest)
+renewed new own (fragments tag vr values rest) = fragments tag vr values (renewed new own rest)
+
+-- the elements name no transfer syntax
+pub record NamesNoSyntax (elements : Trees) : Type 0 where
+  pub without : without_syntax elements ≡ elements
+  pub with_it : (uid : List ℕ) → with_syntax uid elements ≡ elements

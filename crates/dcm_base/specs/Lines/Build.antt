@@ -14,7 +14,7 @@ use Rattle.dcm_base.specs.Tables.Syntax.{Little}
 use Rattle.dcm_base.specs.declared.fault.LineFault.{LineFault}
 use Rattle.dcm_base.specs.declared.fault.LineFault.TheVariants.{LineTooLong, NotALine, ValueDoesNotFit, NotAllowed}
 use Rattle.dcm_base.specs.declared.fault.LineFault.TheVariants.{NotAscending, BadMetaGroup, NoTransferSyntax, TooDeep}
-use Rattle.dcm_base.specs.declared.fault.LineFault.TheVariants.{EndsEarly, TooLong}
+use Rattle.dcm_base.specs.declared.fault.LineFault.TheVariants.{EndsEarly, ByCharacters, TooLong}
 use Rattle.dcm_base.specs.declared.fault.LineStop.{LineStop}
 use Rattle.dcm_base.specs.declared.length.Length.TheVariants.{Undefined}
 use Rattle.dcm_base.specs.Tables.Tag.{is_above}
@@ -34,7 +34,7 @@ use Rattle.dcm_base.specs.Conversion.NewMeta.{new_meta}
 use Rattle.dcm_base.specs.Conversion.Recode.{recode}
 use Rattle.dcm_base.specs.Lines.ReadValue.{value_shown}
 use Rattle.dcm_base.specs.Lines.Line.{Step, show_leaf, begin_sequence, begin_fragments, begin_item, show_fragment}
-use Rattle.dcm_base.specs.Lines.Line.{end_item, end_sequence, Meaning, nothing, one, no_line, means}
+use Rattle.dcm_base.specs.Lines.Line.{end_item, end_sequence, Meaning, nothing, one, by_characters, no_line, means}
 
 -- what the lines so far have shown: the meta group, whether it has ended, and the data set
 pub record Built : Type 0 where
@@ -268,6 +268,8 @@ without_return line = reverse (without_return_reversed (reverse line))
 abbrev pub with_meaning : Meaning → Built → Result Built Refused
 with_meaning nothing b = Ok b
 with_meaning (one s) b = with_shown s b
+-- B10
+with_meaning by_characters b = refused ByCharacters b
 -- B2
 with_meaning no_line b = refused NotALine b
 

@@ -1,7 +1,7 @@
 -- What the lines of a dump mean.
 use Rattle.std.specs.Prelude.{◌≡◌, ℕ, List, [], ◌∷◌, ◌++◌, take, drop, Option, Some, None, Bool, true, false, ◌&&◌}
-use Rattle.std.specs.Prelude.{◌==◌, nat_eq, nat_le, if◌then◌else◌, codes, bytes_eq}
-use Rattle.std.specs.List.{list_all, starts_with}
+use Rattle.std.specs.Prelude.{◌==◌, nat_eq, nat_le, if◌then◌else◌, codes, bytes_eq, reverse}
+use Rattle.std.specs.List.{list_all, starts_with, ends_with}
 use Rattle.std.specs.Str.{byte}
 use Rattle.dcm_base.specs.declared.tag.Tag.{Tag}
 use Rattle.dcm_base.specs.declared.vr.Vr.{Vr}
@@ -20,10 +20,11 @@ pub data Step : Type 0 where
   end_item : Step
   end_sequence : Step
 
--- a line shows nothing or one thing, or is no line of a dump
+-- a line shows nothing or one thing, or says that texts are shown as characters, or is no line of a dump
 pub data Meaning : Type 0 where
   nothing : Meaning
   one : (step : Step) → Meaning
+  by_characters : Meaning
   no_line : Meaning
 
 abbrev pub space : ℕ
@@ -45,6 +46,16 @@ is_end (c ∷ cs) = c == byte "#"
 
 abbrev pub is_skipped : List ℕ → Bool
 is_skipped line = is_end (without_spaces line)
+
+-- how a comment ends that says that texts are shown as characters
+abbrev pub CHARACTERS_MARK : List ℕ
+CHARACTERS_MARK = codes "(texts in UTF-8)"
+
+abbrev pub without_last_spaces : List ℕ → List ℕ
+without_last_spaces line = reverse (without_spaces (reverse line))
+
+abbrev pub is_marked : List ℕ → Bool
+is_marked line = ends_with nat_eq (without_last_spaces line) CHARACTERS_MARK
 
 -- a value field and what follows it
 pub record Field : Type 0 where
@@ -142,9 +153,12 @@ meaning_of None = no_line
 meaning_of (Some p) = if is_item_group p.tag then item_meaning p.tag p.letters p.rest
     else element_meaning p.tag (vr_of p.letters) p.rest
 
+abbrev pub comment_meaning : List ℕ → Meaning
+comment_meaning line = if is_marked line then by_characters else nothing
+
 -- what one line means, without its newline and a carriage return before it
 abbrev pub means : List ℕ → Meaning
-means line = if is_skipped line then nothing else meaning_of (parts line)
+means line = if is_skipped line then comment_meaning line else meaning_of (parts line)
 
 -- a line means this, whose bytes before its newline are no controls
 pub record LineMeans (line : List ℕ) (m : Meaning) : Type 0 where

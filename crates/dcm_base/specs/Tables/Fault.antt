@@ -59,6 +59,7 @@ line_fault_number line.BadMetaGroup = codes "B6"
 line_fault_number line.NoTransferSyntax = codes "B7"
 line_fault_number line.TooDeep = codes "B8"
 line_fault_number line.EndsEarly = codes "B9"
+line_fault_number line.ByCharacters = codes "B10"
 line_fault_number line.TooLong = codes "R15"
 
 abbrev pub line_fault_text : LineFault → List ℕ
@@ -71,6 +72,7 @@ line_fault_text line.BadMetaGroup = codes "bad meta group"
 line_fault_text line.NoTransferSyntax = codes "no usable transfer syntax"
 line_fault_text line.TooDeep = codes "nested too deep"
 line_fault_text line.EndsEarly = codes "input ends too early"
+line_fault_text line.ByCharacters = codes "a dump by characters"
 line_fault_text line.TooLong = codes "input too long"
 
 -- why an edit is refused

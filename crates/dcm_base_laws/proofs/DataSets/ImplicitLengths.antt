@@ -1,5 +1,6 @@
 -- Where an implicit head tells a value from a sequence.
 use Rattle.std.proofs.Common.{◌≡◌, ◌≢◌, ◌∙◌, ap, sym, refl, subst, ℕ, List, [], length, true, Bool, false, Option, Some, None, if◌then◌else◌, option_map}
+use Rattle.dcm_lemmas.proofs.Options.{some_same}
 use Rattle.dcm_base.specs.declared.tag.Tag.{Tag}
 use Rattle.dcm_base.specs.declared.vr.Vr.{Vr}
 use Rattle.dcm_base.specs.declared.vr.Vr.TheVariants.{SQ, UN, US, SS}
@@ -23,7 +24,6 @@ use Rattle.dcm_base.specs.Conversion.Recode.{is_explicit, too_long}
 use Rattle.dcm_base.specs.declared.dictionary.Dictionary.TheVariants.{Extract, Standard, Signed}
 use Rattle.std.specs.Option.{option_map_or}
 use Rattle.dcm_base.specs.Conversion.Normal.{FitsTarget, ItemsFit, FrontFits, TellsValue, TellsSequence, StaysValue, StayValues, ItemsStay, FrontStays}
-use Rattle.dcm_base.proofs.DataSets.Heads.{some_same}
 use Rattle.dcm_base.proofs.DataSets.Alike.{unsigned, Alike, alike_then, alike_behind, unsigned_sequence, sequence_alike, read_by_dictionary, inside_dictionary}
 
 -- ---- an explicit target
@@ -223,7 +223,7 @@ explicit_fits source target bar start bytes f stop explicit same stay (reached, 
 
 -- ---- any target of an implicit source
 
-is_no_sequence : (v : Vr) → v ≢ SQ → is_sequence v ≡ false
+pub is_no_sequence : (v : Vr) → v ≢ SQ → is_sequence v ≡ false
 is_no_sequence SQ h = absurd (h refl)
 is_no_sequence v h = refl
 

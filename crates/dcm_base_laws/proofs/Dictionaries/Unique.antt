@@ -7,12 +7,12 @@ use Rattle.std.proofs.lemmas.Slice.Eq.{bytes_eq-Decides}
 use Rattle.std.proofs.lemmas.List.Recursion.{found_at}
 use Rattle.std.proofs.lemmas.Bool.Decides.{nat_tests}
 use Rattle.std.proofs.lemmas.List.{get_or-map, length-map}
+use Rattle.dcm_lemmas.proofs.Numbers.{equals_itself}
+use Rattle.dcm_lemmas.proofs.Truth.{and_both, and_first, and_second, is_false}
 use Rattle.dcm_base.specs.declared.vr.Vr.{Vr}
 use Rattle.dcm_base.specs.declared.dictionary.Dictionary.{Dictionary}
 use Rattle.dcm_base.specs.declared.dictionary.Dictionary.TheVariants.{Extract, Standard, Signed}
 use Rattle.dcm_base.specs.Tables.Dictionary.{Element, Entry, elements, entries, keywords, keyword_of, element_of, elements_in, numbered, called}
-use Rattle.dcm_base.proofs.Dictionaries.ByNumber.{rest_passes}
-use Rattle.dcm_base.proofs.Dictionaries.Entries.{first_passes}
 use Rattle.dcm_base.proofs.Dictionaries.Lines.{standard_keywords, standard_keywords_are}
 
 -- a keyword as a number in base 256
@@ -53,29 +53,22 @@ else_both : (t b : Bool) → t ≡ false → b ≡ true → (if t then false els
 else_both true b p q = sym p
 else_both false b p q = q
 
-both : (a b : Bool) → a ≡ true → b ≡ true → a && b ≡ true
-both true b p q = q
-both false b p q = p
-
-eq_self : (n : ℕ) → (n == n) ≡ true
-eq_self n = grind (arith, nat_tests)
-
 same_class : (n x : ℕ) → n ≡ x → (x % 61 == n % 61) ≡ true
-same_class n x is = subst (λ x. (x % 61 == n % 61) ≡ true) is (eq_self (n % 61))
+same_class n x is = subst (λ x. (x % 61 == n % 61) ≡ true) is (equals_itself (n % 61))
 
 not_eq : (n x : ℕ) → (n ≡ x → false ≡ true) → (n == x) ≡ false
 not_eq n x must = let other : n ≢ x = λ is. false≢true (must is) in grind (arith, nat_tests)
 
 eq_not : (n x : ℕ) → (n == x) ≡ false → n ≢ x
-eq_not n x p = λ is. false≢true (sym p ∙ subst (λ x. (n == x) ≡ true) is (eq_self n))
+eq_not n x p = λ is. false≢true (sym p ∙ subst (λ x. (n == x) ≡ true) is (equals_itself n))
 
 class_apart : (k c : ℕ) (xs : List ℕ) → c < k → apart_below k xs ≡ true → apart (in_class c xs) ≡ true
 class_apart zero c xs lt p = absurd (omega arith)
 class_apart (suc k) c xs lt p =
     let last_or_less : (c ≡ k) ⊎ (c < k) = grind arith in
     elim last_or_less [
-      | inl is ↦ subst (λ c. apart (in_class c xs) ≡ true) (sym is) (first_passes _ _ p)
-      | inr less ↦ class_apart k c xs less (rest_passes _ _ p)
+      | inl is ↦ subst (λ c. apart (in_class c xs) ≡ true) (sym is) (and_first _ _ p)
+      | inr less ↦ class_apart k c xs less (and_second _ _ p)
     ]
 
 differs_step : (n x : ℕ) (t : Bool) (kept rest : List ℕ) → (n ≡ x → t ≡ true) → differs n (keep t x kept) ≡ true → (differs n kept ≡ true → differs n rest ≡ true) → differs n (x ∷ rest) ≡ true
@@ -87,18 +80,18 @@ differs_all n [] p = refl
 differs_all n (x ∷ xs) p = differs_step n x (x % 61 == n % 61) (in_class (n % 61) xs) xs (same_class n x) p (differs_all n xs)
 
 apart_here : (t : Bool) (x : ℕ) (xs : List ℕ) → t ≡ true → apart (keep t x xs) ≡ true → differs x xs ≡ true
-apart_here true x xs is p = first_passes _ _ p
+apart_here true x xs is p = and_first _ _ p
 apart_here false x xs is p = absurd (false≢true is)
 
 apart_rest : (t : Bool) (x : ℕ) (xs : List ℕ) → apart (keep t x xs) ≡ true → apart xs ≡ true
-apart_rest true x xs p = rest_passes _ _ p
+apart_rest true x xs p = and_second _ _ p
 apart_rest false x xs p = p
 
 apart_all : (xs : List ℕ) → ((c : ℕ) → c < 61 → apart (in_class c xs) ≡ true) → apart xs ≡ true
 apart_all [] f = refl
 apart_all (x ∷ xs) f =
     let below : x % 61 < 61 = omega arith in
-    both _ _ (differs_all x xs (apart_here _ x _ (eq_self (x % 61)) (f (x % 61) below))) (apart_all xs (λ c lt. apart_rest (x % 61 == c) x (in_class c xs) (f c lt)))
+    and_both _ _ (differs_all x xs (apart_here _ x _ (equals_itself (x % 61)) (f (x % 61) below))) (apart_all xs (λ c lt. apart_rest (x % 61 == c) x (in_class c xs) (f c lt)))
 
 apart_of : (xs : List ℕ) → apart_below 61 xs ≡ true → apart xs ≡ true
 apart_of xs p = apart_all xs (λ c lt. class_apart 61 c xs lt p)
@@ -111,8 +104,8 @@ differs_at n (x ∷ xs) (suc j) d p lt = differs_at n xs j d (else_rest _ _ p) (
 apart_at : (xs : List ℕ) (i j d : ℕ) → apart xs ≡ true → i < j → j < length xs → get_or xs i d ≢ get_or xs j d
 apart_at [] i j d p lt within = absurd (omega arith)
 apart_at (x ∷ xs) i zero d p lt within = absurd (omega arith)
-apart_at (x ∷ xs) zero (suc j) d p lt within = differs_at x xs j d (first_passes _ _ p) (le_of_suc-le-suc within)
-apart_at (x ∷ xs) (suc i) (suc j) d p lt within = apart_at xs i j d (rest_passes _ _ p) (le_of_suc-le-suc lt) (le_of_suc-le-suc within)
+apart_at (x ∷ xs) zero (suc j) d p lt within = differs_at x xs j d (and_first _ _ p) (le_of_suc-le-suc within)
+apart_at (x ∷ xs) (suc i) (suc j) d p lt within = apart_at xs i j d (and_second _ _ p) (le_of_suc-le-suc lt) (le_of_suc-le-suc within)
 
 -- the keywords of each dictionary are apart
 abbrev key : Element → ℕ
@@ -146,10 +139,6 @@ keywords_differ d i j e lt within =
     let long : length (map key (elements_in d)) ≡ length (elements_in d) = length-map (elements_in d) key in
     let other = apart_at (map key (elements_in d)) i j 0 (keys_apart d) lt (omega arith) in
     λ same. other (get_or-map key (elements_in d) i e 0 (omega arith) ∙ ap (number_from 0) same ∙ sym (get_or-map key (elements_in d) j e 0 within))
-
-is_false : (b : Bool) → (b ≡ true → ⊥) → b ≡ false
-is_false true never = absurd (never refl)
-is_false false never = refl
 
 module _ (k : List ℕ) where
   first_or_rest : (b : Bool) (e : Element) (rest : Option Element) → option_map (λ e. e.0) (if b then Some e else rest) ≡ (if b then Some e.0 else option_map (λ e. e.0) rest)

@@ -6,6 +6,8 @@ use Rattle.std.specs.Option.{option_map_or}
 use Rattle.std.proofs.lemmas.Bool.Decides.{nat_tests}
 use Rattle.std.proofs.lemmas.List.{length-take-le, length-drop, length-reverse}
 use Rattle.std.proofs.lemmas.Fmt.{decimal_nonempty}
+use Rattle.dcm_lemmas.proofs.Options.{mapped}
+use Rattle.dcm_lemmas.proofs.Truth.{and_first, and_second}
 use Rattle.dcm_base.specs.declared.vr.Vr.{Vr}
 use Rattle.dcm_base.specs.declared.vr.Vr.TheVariants.{AE, AS, AT, CS, DA, DS, DT, FD, FL, IS, LO, LT, OB, OD, OF, OL, OV, OW, PN, SH, SL, SQ, SS, ST, SV, TM, UC, UI, UL, UN, UR, US, UT, UV}
 use Rattle.dcm_base.specs.Tables.Representation.{is_sequence}
@@ -15,7 +17,7 @@ use Rattle.dcm_base.specs.Dump.ValueText.{Shape, hex_byte, unsigned, signed, tag
 use Rattle.dcm_base.proofs.DumpsBack.Texts.{Bytes}
 use Rattle.dcm_base.proofs.DumpsBack.Numbers.{Bytes-reverse, length-hex}
 use Rattle.dcm_base.proofs.DumpsBack.Parts.{Each, each_piece, Bytes-take, Bytes-drop}
-use Rattle.dcm_base.proofs.DumpsBack.Values.{Bytes-unpadded, found, mapped, and_one, and_two, below_64, whole, units_are, more_than_none, two_below}
+use Rattle.dcm_base.proofs.DumpsBack.Values.{Bytes-unpadded, found, below_64, whole, units_are, more_than_none, two_below}
 use Rattle.dcm_base_laws.proofs.DumpsBack.Fields.{printed_text, Bytewise, Shows, IsPlain, IsTagText, text_shows, plain_shows, decimal_is_plain, minus_is_plain, hex_is_plain, joined_is_plain, tags_show}
 
 -- ---- names of unique identifiers
@@ -30,17 +32,13 @@ all_plain : list_all has_plain_name uids ≡ true
 unfolding uids has_plain_name is_plain_byte
 all_plain = refl
 
-is_not : (b : Bool) → not b ≡ true → b ≡ false
-is_not true p = cc
-is_not false p = refl
-
 plain_byte : (c : ℕ) → is_plain_byte c ≡ true → IsPlain c
 unfolding is_plain_byte
 plain_byte c p = record { no_space = grind (arith, nat_tests, p); no_comment = grind (arith, nat_tests, p); no_bracket = grind (arith, nat_tests, p); no_parenthesis = grind (arith, nat_tests, p); printed = grind (arith, nat_tests, p) }
 
 plain_bytes : (cs : List ℕ) → list_all is_plain_byte cs ≡ true → Bytewise IsPlain cs
 plain_bytes [] p = tt
-plain_bytes (c ∷ cs) p = (plain_byte c (and_one (is_plain_byte c) _ p), plain_bytes cs (and_two (is_plain_byte c) _ p))
+plain_bytes (c ∷ cs) p = (plain_byte c (and_first (is_plain_byte c) _ p), plain_bytes cs (and_second (is_plain_byte c) _ p))
 
 name_is_plain : (uid name : List ℕ) → uid_name uid ≡ Some name → Bytewise IsPlain name
 unfolding uid_name has_plain_name

@@ -7,13 +7,12 @@ use Rattle.std.specs.Int.Digits.{AllBelowBase, digits_of}
 use Rattle.std.proofs.lemmas.Bool.Decides.{nat_tests}
 use Rattle.std.proofs.lemmas.Fmt.{decimal-digits_of}
 use Rattle.std.proofs.lemmas.Int.Digits.{all_below_base_digits_of}
+use Rattle.dcm_lemmas.proofs.Choice.{if_false}
+use Rattle.dcm_lemmas.proofs.Truth.{and_first, and_first_false, and_second, or_last_false}
 use Rattle.dcm_base.specs.Dump.ValueText.{lower, upper, hex_byte, hex_word, tag_text, escape, escaped, bracketed}
 use Rattle.dcm_base.specs.Lines.Line.{Field, field, with_front, value_field, through_bracket, through_parenthesis, up_to_space, at_space_or_end}
 use Rattle.dcm_base.proofs.DumpsBack.Texts.{Bytes}
 use Rattle.dcm_base.proofs.DumpsBack.Parts.{Each}
-
-if_false : {A : Type 0} (b : Bool) (x y : A) → b ≡ false → (if b then x else y) ≡ y
-if_false b x y p = rw p refl
 
 -- each byte has a property
 abbrev pub Bytewise : (ℕ → Type 0) → List ℕ → Type 0
@@ -50,17 +49,9 @@ IsPrinted c = 32 ≤ c
 least : (c : ℕ) → nat_le 32 c ≡ true → IsPrinted c
 least c p = grind (arith, nat_tests, p)
 
-and_one : (a b : Bool) → (a && b) ≡ true → a ≡ true
-and_one true b p = refl
-and_one false b p = cc
-
-and_two : (a b : Bool) → (a && b) ≡ true → b ≡ true
-and_two true b p = p
-and_two false b p = cc
-
 pub printed_text : (cs : List ℕ) → list_all (λ c. nat_le 32 c) cs ≡ true → Bytewise IsPrinted cs
 printed_text [] p = tt
-printed_text (c ∷ cs) p = (least c (and_one (nat_le 32 c) _ p), printed_text cs (and_two (nat_le 32 c) _ p))
+printed_text (c ∷ cs) p = (least c (and_first (nat_le 32 c) _ p), printed_text cs (and_second (nat_le 32 c) _ p))
 
 at_least : (c : ℕ) → IsPrinted c → nat_le 32 c ≡ true
 at_least c l = grind (arith, nat_tests, l)
@@ -91,19 +82,13 @@ pub record Shows (d : List ℕ) : Type 0 where
   pub printed : Bytewise IsPrinted d
   pub field_is : (tail : List ℕ) → value_field (d ++ 32 ∷ tail) ≡ field d (32 ∷ tail)
 
-abbrev IsNot : ℕ → ℕ → Type 0
+abbrev pub IsNot : ℕ → ℕ → Type 0
 IsNot b c = (c == b) ≡ false
 
 -- up to a bracket
 to_bracket : (p tail : List ℕ) → Bytewise (IsNot 93) p → through_bracket (p ++ 93 ∷ tail) ≡ field (p ++ 93 ∷ []) tail
 to_bracket [] tail h = refl
 to_bracket (c ∷ p) tail h = if_false (c == 93) _ _ h.0 ∙ ap (with_front c) (to_bracket p tail h.1)
-
-or_last : (a b c d : Bool) → (a || b || c || d) ≡ false → d ≡ false
-or_last true b c d p = cc
-or_last false true c d p = cc
-or_last false false true d p = cc
-or_last false false false d p = p
 
 upper_ends_not : (d : ℕ) → d < 16 → IsNot 93 (upper d)
 upper_ends_not d l = grind (arith, nat_tests)
@@ -113,7 +98,7 @@ escape_ends_not b l = by_test (nat_lt b 32 || b == 127 || b == 37 || b == 93) re
   where
     by_test : (t : Bool) → (nat_lt b 32 || b == 127 || b == 37 || b == 93) ≡ t → Bytewise (IsNot 93) (if t then 37 ∷ upper (b / 16) ∷ upper (b % 16) ∷ [] else b ∷ [])
     by_test true e = (refl, (upper_ends_not (b / 16) (omega (arith, l)), (upper_ends_not (b % 16) (omega arith), tt)))
-    by_test false e = (or_last (nat_lt b 32) (b == 127) (b == 37) (b == 93) e, tt)
+    by_test false e = (or_last_false (nat_lt b 32) (b == 127) (b == 37) (b == 93) e, tt)
 
 escaped_ends_not : (v : List ℕ) → Bytes v → Bytewise (IsNot 93) (escaped v)
 escaped_ends_not [] h = tt
@@ -123,7 +108,7 @@ or_first : (a b c d : Bool) → (a || b || c || d) ≡ false → a ≡ false
 or_first true b c d p = cc
 or_first false b c d p = refl
 
-escape_is_printed : (b : ℕ) → b < 256 → Bytewise IsPrinted (escape b)
+pub escape_is_printed : (b : ℕ) → b < 256 → Bytewise IsPrinted (escape b)
 escape_is_printed b l = by_test (nat_lt b 32 || b == 127 || b == 37 || b == 93) refl
   where
     no_control : (b : ℕ) → nat_lt b 32 ≡ false → 32 ≤ b
@@ -207,14 +192,10 @@ joined_is_plain write u (w ∷ us) h =
 past : List ℕ → Field → Field
 past p f = field (p ++ f.value) f.rest
 
-and_false : (a b : Bool) → a ≡ false → (a && b) ≡ false
-and_false true b p = cc
-and_false false b p = refl
-
 to_parenthesis : (p rest : List ℕ) → Bytewise (IsNot 41) p → through_parenthesis (p ++ rest) ≡ past p (through_parenthesis rest)
 unfolding past
 to_parenthesis [] rest h = refl
-to_parenthesis (c ∷ p) rest h = if_false (c == 41 && at_space_or_end (p ++ rest)) _ _ (and_false (c == 41) _ h.0) ∙ ap (with_front c) (to_parenthesis p rest h.1)
+to_parenthesis (c ∷ p) rest h = if_false (c == 41 && at_space_or_end (p ++ rest)) _ _ (and_first_false (c == 41) _ h.0) ∙ ap (with_front c) (to_parenthesis p rest h.1)
 
 lower_ends_not : (d : ℕ) → d < 16 → IsNot 41 (lower d)
 lower_ends_not d l = grind (arith, nat_tests)

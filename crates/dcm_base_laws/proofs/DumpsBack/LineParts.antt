@@ -1,10 +1,11 @@
 -- A line of a dump means what it shows: its parts.
-use Rattle.std.proofs.Common.{◌≡◌, ℕ, zero, suc, ◌<◌, List, [], ◌∷◌, ◌++◌, take, drop, Option, Some, None, Bool, false, refl, ◌∙◌, ap, replicate}
+use Rattle.std.proofs.Common.{◌≡◌, ℕ, zero, suc, ◌<◌, List, [], ◌∷◌, ◌++◌, take, drop, Option, Some, None, false, refl, ◌∙◌, ap, replicate}
 use Rattle.std.specs.Prelude.{if◌then◌else◌, ◌==◌}
+use Rattle.dcm_lemmas.proofs.Choice.{if_false}
 use Rattle.dcm_base.specs.declared.tag.Tag.{Tag}
 use Rattle.dcm_base.specs.Dump.ValueText.{tag_text, hex_word}
 use Rattle.dcm_base.specs.Lines.ReadValue.{◌>>=◌, hex_number, tag_of_text}
-use Rattle.dcm_base.specs.Lines.Line.{without_spaces, past_spaces, is_end, Parts, parts, nothing, meaning_of, means}
+use Rattle.dcm_base.specs.Lines.Line.{without_spaces, past_spaces, is_end, Parts, parts, comment_meaning, meaning_of, means}
 use Rattle.dcm_base.proofs.DumpsBack.Numbers.{word_back}
 
 abbrev pub tag_from : ℕ → ℕ → Tag
@@ -20,9 +21,6 @@ tag_text_back g e l m =
 pub past_indent : (n : ℕ) (w : List ℕ) → without_spaces (replicate n 32 ++ w) ≡ without_spaces w
 past_indent zero w = refl
 past_indent (suc n) w = past_indent n w
-
-if_false : {A : Type 0} (b : Bool) (x y : A) → b ≡ false → (if b then x else y) ≡ y
-if_false b x y p = rw p refl
 
 stays : (c : ℕ) (r : List ℕ) → (c == 32) ≡ false → without_spaces (c ∷ r) ≡ c ∷ r
 stays c r p = if_false (c == 32) _ _ p
@@ -61,5 +59,5 @@ module _ (g e x y c : ℕ) (r : List ℕ) (g_small : g < 65536) (e_small : e < 6
 
   pub line_means : (n : ℕ) → means (replicate n 32 ++ body) ≡ meaning_of its_parts
   line_means n =
-      ap (λ b. if is_end b then nothing else meaning_of (parts (replicate n 32 ++ body))) (past_indent n body)
+      ap (λ b. if is_end b then comment_meaning (replicate n 32 ++ body) else meaning_of (parts (replicate n 32 ++ body))) (past_indent n body)
       ∙ ap meaning_of (line_parts n)

@@ -3,6 +3,10 @@ use Rattle.std.proofs.Common.{◌≡◌, ℕ, suc, ◌<◌, ◌-◌, ◌%◌, Li
 use Rattle.std.specs.Prelude.{if◌then◌else◌, ◌==◌, slice_index, nat_lt}
 use Rattle.std.proofs.lemmas.Bool.Decides.{nat_tests}
 use Rattle.std.proofs.lemmas.List.{length-take-le}
+use Rattle.dcm_base.proofs.Conversions.OrderLaws.{turned_bytes}
+use Rattle.dcm_lemmas.proofs.Lists.{joined_alike}
+use Rattle.dcm_lemmas.proofs.Numbers.{equal_numbers}
+use Rattle.dcm_lemmas.proofs.Truth.{and_first, and_second}
 use Rattle.dcm_base.specs.declared.tag.Tag.{Tag}
 use Rattle.dcm_base.specs.declared.vr.Vr.{Vr}
 use Rattle.dcm_base.specs.declared.vr.Vr.TheVariants.{AE, AS, CS, DA, DS, DT, IS, LO, LT, PN, SH, SQ, ST, TM, UC, UI, UN, UR, UT}
@@ -16,18 +20,13 @@ use Rattle.dcm_base.specs.Dump.ValueText.{shape, unpadded}
 use Rattle.dcm_base.specs.Lines.ReadValue.{takes_bytes, value_shown}
 use Rattle.dcm_base.specs.Conversion.Recode.{head, is_explicit, item_head, item_delimiter, sequence_delimiter, even, leaf_head, leaf_bytes, too_long, recoded_leaf, unless_dropped, recode_set, recode_items}
 use Rattle.dcm_base.specs.Lines.Build.{rebuilt, rebuilt_items}
-use Rattle.dcm_base.proofs.Conversions.Order.{turned_cons, turned_short}
 
 -- ---- values
-
-turned_one : (v : List ℕ) → turned 1 v ≡ v
-turned_one [] = turned_short 1 (omega arith) [] (omega arith)
-turned_one (b ∷ v) = turned_cons 1 (omega arith) (b ∷ []) v refl ∙ ap (λ x. b ∷ x) (turned_one v)
 
 order_one : (s : Syntax) (vr : Vr) (v : List ℕ) → unit vr ≡ 1 → order s vr v ≡ v
 order_one (implicit_in d) vr v e = refl
 order_one (little_in d) vr v e = refl
-order_one (big_in d) vr v e = ap (λ k. turned k v) e ∙ turned_one v
+order_one (big_in d) vr v e = ap (λ k. turned k v) e ∙ turned_bytes v
 
 text_unit : (vr : Vr) → takes_bytes (shape vr) ≡ true → unit vr ≡ 1
 text_unit AE e = refl
@@ -71,19 +70,8 @@ last_back b v p e = ap (λ n. take n (b ∷ v) ++ p ∷ []) (one_less (length v)
     ends b [] p e = ap (λ x. x ∷ []) (sym e)
     ends b (c ∷ v) p e = ap (λ x. b ∷ x) (ends c v p e)
 
-and_one : (a b : Bool) → (a && b) ≡ true → a ≡ true
-and_one true b p = refl
-and_one false b p = cc
-
-and_two : (a b : Bool) → (a && b) ≡ true → b ≡ true
-and_two true b p = p
-and_two false b p = cc
-
 is_even : (n : ℕ) → (n % 2 == 0) ≡ true → n % 2 ≡ 0
 is_even n p = grind (arith, nat_tests, p)
-
-is_last : (m n : ℕ) → (m == n) ≡ true → m ≡ n
-is_last m n p = grind (arith, nat_tests, p)
 
 heads_alike : (s : Syntax) (t : Tag) (vr : Vr) (m n : ℕ) → even m ≡ even n → leaf_head s t vr m ≡ leaf_head s t vr n
 heads_alike s t vr m n e = ap (λ k. head s t (if is_explicit s && (not (is_long vr) && nat_lt 65534 k) then UN else vr) (Known k)) e
@@ -122,7 +110,7 @@ text_same s t vr [] one = by_test (length {A = ℕ} [] % 2 == 0 && slice_index [
 text_same s t vr (b ∷ v) one = by_test (length (b ∷ v) % 2 == 0 && slice_index (b ∷ v) (length (b ∷ v) - 1) == pad vr) refl
   where
     by_test : (x : Bool) → (length (b ∷ v) % 2 == 0 && slice_index (b ∷ v) (length (b ∷ v) - 1) == pad vr) ≡ x → recoded_leaf s t vr (if x then take (length (b ∷ v) - 1) (b ∷ v) else b ∷ v) ≡ recoded_leaf s t vr (b ∷ v)
-    by_test true e = padded_same s t vr b v one (and_one _ _ e) (is_last (slice_index (b ∷ v) (length (b ∷ v) - 1)) (pad vr) (and_two (length (b ∷ v) % 2 == 0) _ e))
+    by_test true e = padded_same s t vr b v one (and_first _ _ e) (equal_numbers (slice_index (b ∷ v) (length (b ∷ v) - 1)) (pad vr) (and_second (length (b ∷ v) % 2 == 0) _ e))
     by_test false e = refl
 
 leaf_same : (s : Syntax) (t : Tag) (vr : Vr) (v : List ℕ) → recoded_leaf s t vr (value_shown vr v) ≡ recoded_leaf s t vr v
@@ -134,9 +122,6 @@ leaf_same s t vr v = by_shape (takes_bytes (shape vr)) refl
 
 -- ---- data sets
 
-both : {a b c d : List ℕ} → a ≡ b → c ≡ d → a ++ c ≡ b ++ d
-both p q = cc
-
 unless_alike : (t : Tag) {a b : List ℕ} → a ≡ b → unless_dropped t a ≡ unless_dropped t b
 unless_alike t p = ap (unless_dropped t) p
 
@@ -145,12 +130,12 @@ mutual
 
   pub recodes_same : (s : Syntax) (set : Trees) → recode_set s (rebuilt set) ≡ recode_set s set
   recodes_same s no_tree = refl
-  recodes_same s (leaf t vr v rest) = both (unless_alike t (leaf_same s t vr v)) (recodes_same s rest)
+  recodes_same s (leaf t vr v rest) = joined_alike (unless_alike t (leaf_same s t vr v)) (recodes_same s rest)
   recodes_same s (sequence t vr declared items rest) =
-      both (ap (λ x. unless_dropped t (head s t SQ Undefined ++ x ++ sequence_delimiter s)) (items_same s items)) (recodes_same s rest)
-  recodes_same s (fragments t vr values rest) = both refl (recodes_same s rest)
+      joined_alike (ap (λ x. unless_dropped t (head s t SQ Undefined ++ x ++ sequence_delimiter s)) (items_same s items)) (recodes_same s rest)
+  recodes_same s (fragments t vr values rest) = joined_alike refl (recodes_same s rest)
 
   pub items_same : (s : Syntax) (items : Items) → recode_items s (rebuilt_items items) ≡ recode_items s items
   items_same s no_item = refl
   items_same s (item declared set rest) =
-      both (ap (λ x. item_head s Undefined ++ x ++ item_delimiter s) (recodes_same s set)) (items_same s rest)
+      joined_alike (ap (λ x. item_head s Undefined ++ x ++ item_delimiter s) (recodes_same s set)) (items_same s rest)

@@ -5,6 +5,8 @@ use Rattle.std.proofs.lemmas.List.Sums.{count_by-le-length}
 use Rattle.std.proofs.Math.Nat.{div-le_self}
 use Rattle.std.specs.List.{starts_with}
 use Rattle.std.proofs.lemmas.Bool.Decides.{nat_tests}
+use Rattle.dcm_lemmas.proofs.Choice.{if_false, if_true}
+use Rattle.dcm_lemmas.proofs.Truth.{and_first_false}
 use Rattle.dcm_base.specs.declared.tag.Tag.{Tag}
 use Rattle.dcm_base.specs.declared.vr.Vr.{Vr}
 use Rattle.dcm_base.specs.declared.vr.Vr.TheVariants.{AE, SQ, UN, OB, OW}
@@ -23,12 +25,6 @@ use Rattle.dcm_base_laws.proofs.DumpsBack.Fields.{Shows, Bytewise, IsPrinted, pr
 use Rattle.dcm_base_laws.proofs.DumpsBack.Displays.{display_shows, hex_begins_plain, BeginsPlain}
 use Rattle.dcm_base_laws.proofs.DumpsBack.LineMeanings.{Meant, line_meant, IsSmall}
 use Rattle.dcm_base.specs.declared.dictionary.Dictionary.{Dictionary}
-
-if_false : {A : Type 0} (b : Bool) (x y : A) → b ≡ false → (if b then x else y) ≡ y
-if_false b x y p = rw p refl
-
-if_true : {A : Type 0} (b : Bool) (x y : A) → b ≡ true → (if b then x else y) ≡ x
-if_true b x y p = rw p refl
 
 -- ---- letters
 
@@ -80,10 +76,6 @@ field_means : (show : List ℕ → Step) (d tail : List ℕ) → Shows d → is_
 field_means show d tail s skipped =
     ap (λ f. if is_skipped f.rest then one (show f.value) else no_line) (s.field_is tail) ∙ if_true (is_skipped (32 ∷ tail)) (one (show d)) no_line skipped
 
-and_false : (a b : Bool) → a ≡ false → (a && b) ≡ false
-and_false true b p = cc
-and_false false b p = refl
-
 -- a display of bytes is no opening
 pub record NoOpening (vr : Vr) (cs : List ℕ) : Type 0 where
   pub no_sequence : (may_be_sequence vr && begins (codes "(Sequence with") cs) ≡ false
@@ -101,10 +93,10 @@ plain_opens_not vr d tail b =
     turned c p = grind (arith, nat_tests, p)
 
     apart_one : (c : ℕ) (cs : List ℕ) → (c == 40) ≡ false → begins (codes "(Sequence with") (c ∷ cs) ≡ false
-    apart_one c cs p = and_false (40 == c) (starts_with nat_eq cs (codes "Sequence with")) (turned c p)
+    apart_one c cs p = and_first_false (40 == c) (starts_with nat_eq cs (codes "Sequence with")) (turned c p)
 
     apart_two : (c : ℕ) (cs : List ℕ) → (c == 40) ≡ false → begins (codes "(PixelSequence") (c ∷ cs) ≡ false
-    apart_two c cs p = and_false (40 == c) (starts_with nat_eq cs (codes "PixelSequence")) (turned c p)
+    apart_two c cs p = and_first_false (40 == c) (starts_with nat_eq cs (codes "PixelSequence")) (turned c p)
 
 opens_not : (vr : Vr) (v tail : List ℕ) → is_sequence vr ≡ false → Bytes v → length v % shown_unit vr ≡ 0 → NoOpening vr (display vr v ++ 32 ∷ tail)
 opens_not SQ v tail s h e = cc

@@ -196,3 +196,8 @@ file_header = refl
 unnamed_syntax : set_header (codes "1.2.3]") ≡ codes "# Dicom-Data-Set\n" ++ codes "# Used TransferSyntax: 1.2.3%5D\n"
 unfolding all
 unnamed_syntax = refl
+
+-- its line says nothing of characters
+closed_syntax : set_header (codes "(texts in UTF-8)") ≡ codes "# Dicom-Data-Set\n" ++ codes "# Used TransferSyntax: (texts in UTF-8%29\n"
+unfolding all
+closed_syntax = refl

@@ -4,7 +4,7 @@ use Rattle.std.specs.Prelude.{codes}
 use Rattle.dcm_base.specs.declared.tag.Tag.{Tag}
 use Rattle.dcm_base.specs.declared.vr.Vr.TheVariants.{AT, OB, OW, PN, SQ, UN}
 use Rattle.dcm_base.specs.Tables.Representation.{vr_of}
-use Rattle.dcm_base.specs.Lines.Line.{show_leaf, begin_sequence, begin_fragments, begin_item, show_fragment, end_item, end_sequence, nothing, one, no_line, means}
+use Rattle.dcm_base.specs.Lines.Line.{show_leaf, begin_sequence, begin_fragments, begin_item, show_fragment, end_item, end_sequence, nothing, one, by_characters, no_line, means}
 
 abbrev tag : ℕ → ℕ → Tag
 tag g e = record { group = g; element = e }
@@ -21,6 +21,31 @@ comment = refl
 empty : means (codes "") ≡ nothing
 unfolding vr_of
 empty = refl
+
+-- comments that say that texts are shown as characters
+marked : means (codes "# Dicom-File-Format (texts in UTF-8)") ≡ by_characters
+unfolding vr_of
+marked = refl
+
+marked_before_spaces : means (codes "  #(texts in UTF-8)  ") ≡ by_characters
+unfolding vr_of
+marked_before_spaces = refl
+
+mark_inside : means (codes "# (texts in UTF-8) x") ≡ nothing
+unfolding vr_of
+mark_inside = refl
+
+mark_before_return : means (codes "# (texts in UTF-8)\r") ≡ nothing
+unfolding vr_of
+mark_before_return = refl
+
+mark_of_no_comment : means (codes "(texts in UTF-8)") ≡ no_line
+unfolding vr_of
+mark_of_no_comment = refl
+
+mark_of_an_element : means (codes "(0010,0010) PN [A] # (texts in UTF-8)") ≡ one (show_leaf (tag 0x0010 0x0010) PN (Some (codes "A")))
+unfolding vr_of
+mark_of_an_element = refl
 
 -- elements
 an_element : means (codes "(0010,0010) PN [AB^CD]                                  #   6, 1 PatientName") ≡ one (show_leaf (tag 0x0010 0x0010) PN (Some (codes "AB^CD")))

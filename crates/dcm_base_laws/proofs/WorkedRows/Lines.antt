@@ -4,7 +4,7 @@ use Rattle.std.specs.Prelude.{codes}
 use Rattle.dcm_base.specs.declared.tag.Tag.{Tag}
 use Rattle.dcm_base.specs.declared.vr.Vr.TheVariants.{UI, PN, LO, SQ, LT, UL, UV, OB, UN, SH}
 use Rattle.dcm_base.specs.declared.fault.LineFault.{LineFault}
-use Rattle.dcm_base.specs.declared.fault.LineFault.TheVariants.{LineTooLong, NotALine, ValueDoesNotFit, NotAllowed, NotAscending, BadMetaGroup, NoTransferSyntax, TooDeep, EndsEarly}
+use Rattle.dcm_base.specs.declared.fault.LineFault.TheVariants.{LineTooLong, NotALine, ValueDoesNotFit, NotAllowed, NotAscending, BadMetaGroup, NoTransferSyntax, TooDeep, EndsEarly, ByCharacters}
 use Rattle.dcm_base.specs.declared.length.Length.TheVariants.{Undefined}
 use Rattle.dcm_base.specs.Tree.Tree.{Trees, no_tree, leaf, sequence, fragments, no_item, item}
 use Rattle.dcm_base.specs.Tree.Front.{Front, front, nothing_open, open_sequence, no_open_item, open_item}
@@ -121,6 +121,19 @@ whole_dump : Builds
     None
 unfolding all
 whole_dump = (refl, refl)
+
+-- ---- a dump by characters
+
+-- what stands is what the lines before it have built; one carriage return and then spaces do not count
+by_characters : Builds (built 4096 (syntax_line ++ codes "(0010,0010) PN [AB^CD]\n# Dicom-Data-Set (texts in UTF-8) \r\n(0010,0020) LO [7]\n"))
+    (shown (set_of (leaf (tag 0x10 0x10) PN (codes "AB^CD") no_tree) (tag 0x10 0x10))) (at_line ByCharacters 60 3)
+unfolding all
+by_characters = (refl, refl)
+
+-- it is told after a line that is too long
+long_mark : Builds (built 80 (codes "#" ++ replicate 64 32 ++ codes "(texts in UTF-8)\n")) (unended no_tree) (at_line LineTooLong 0 1)
+unfolding all
+long_mark = (refl, refl)
 
 -- ---- limits
 

@@ -3,8 +3,8 @@ use Rattle.std.proofs.Common.{◌≡◌, ◌∙◌, sym, ap, subst, refl, ℕ, L
 use Rattle.std.specs.Prelude.{is_some, ◌||◌}
 use Rattle.std.specs.Result.{result_err}
 use Rattle.std.specs.Io.KnownBytes.{append_known}
+use Rattle.dcm_lemmas.proofs.Options.{known_nothing}
 use Rattle.dcm_base.specs.Steps.Steps.{Goes}
-use Rattle.dcm_devices.proofs.Writes.Puts.{append_known_none}
 use Rattle.dcm_base.proofs.Writes.Runs.{goes_on, goes_failed}
 use Rattle.dcm_stream.specs.Machine.{well, TellsFailed}
 use Rattle.dcm_build.specs.Halts.{BuildHalt}
@@ -77,7 +77,7 @@ Gone old held new holds bs failed = Goes build_step build_writes old held new ho
 
 nowhere : (s : BuildState) (held : Option (List ℕ)) (failed : Bool) → failed ≡ false → Gone s held s held [] failed
 nowhere s held true e = cc
-nowhere s held false e = (refl, sym (append_known_none held))
+nowhere s held false e = (refl, sym (known_nothing held))
 
 -- no byte
 pub gone_nowhere : (reader : LineReader) (halt : Option BuildHalt) (p : Progress) (held : Option (List ℕ)) → View reader halt p → p.failed ≡ false → Gone p.state held (building reader (stop_of halt)) held [] (is_output halt)
@@ -89,7 +89,7 @@ gone_behind : (old : BuildState) (held : Option (List ℕ)) (new : LineReader) (
 gone_behind old held new holds xs ys (Refused stop) a =
     let s = building new (Some stop) in
     goes_on build_step build_writes {T = Unit {0}} {E = Unit {0}} old held s holds s holds xs ys (Ok tt) a.0 a.1
-    (sym (told_stays new.file (line_at new) stop ys), sym (append_known_none holds) ∙ ap (append_known holds) (sym (told_silent new.file (line_at new) stop ys)))
+    (sym (told_stays new.file (line_at new) stop ys), sym (known_nothing holds) ∙ ap (append_known holds) (sym (told_silent new.file (line_at new) stop ys)))
 gone_behind old held new holds xs ys Output a = goes_failed build_step build_writes {T = Unit {0}} {E = Unit {0}} old held (building new None) holds xs ys (Err tt) refl a
 
 pub gone_still : (old : BuildState) (held : Option (List ℕ)) (new : LineReader) (holds : Option (List ℕ)) (xs ys : List ℕ) (halt : Option BuildHalt) → is_some halt ≡ true → Gone old held (building new (stop_of halt)) holds xs (is_output halt)

@@ -2,9 +2,10 @@
 use Rattle.std.proofs.Common.{◌≡◌, ◌∙◌, ap, ◌++◌, sym, subst, refl, ℕ, List, [], Bool, true, false, cond, Option, Some, None, Result, Ok, Err}
 use Rattle.std.specs.Prelude.{OnOk, IsErrAnd}
 use Rattle.std.specs.Io.KnownBytes.{append_known}
+use Rattle.dcm_lemmas.proofs.Options.{known_nothing, known_twice}
 use Rattle.dcm_base.specs.declared.fault.LineFault.{LineFault}
 use Rattle.dcm_devices.specs.Device.{AppendsFront, Puts}
-use Rattle.dcm_devices.proofs.Writes.Puts.{append_known_none, append_known_twice, puts_behind, front_longer}
+use Rattle.dcm_devices.proofs.Writes.Puts.{puts_behind, front_longer}
 use Rattle.dcm_base.specs.Lines.Line.{Step, Meaning, one}
 use Rattle.dcm_build.specs.Halts.{LineHalt}
 use Rattle.dcm_base.specs.declared.stopped.Stopped.TheVariants.{Refused, Output}
@@ -13,7 +14,7 @@ use Rattle.dcm_build.specs.NewFile.{LineAt, Comes}
 
 -- nothing is written of an element of the meta group
 pub none_written : (t : Bool) (xs : List ℕ) (held : Option (List ℕ)) → t ≡ true → held ≡ append_known held (cond t [] xs)
-none_written true xs held e = sym (append_known_none held)
+none_written true xs held e = sym (known_nothing held)
 none_written false xs held e = absurd (cc)
 
 pub in_set : {T E : Type 0} (r : Result T E) (t : Bool) (new meta set : LineAt → BuildState) → t ≡ false → OnOk r ((at : LineAt) → new at ≡ set at) → OnOk r ((at : LineAt) → new at ≡ cond t (meta at) (set at))
@@ -23,7 +24,7 @@ in_set r t new meta set e h = subst (λ u. OnOk r ((at : LineAt) → new at ≡ 
 pub refused_at : (T : Type 0) (o : Option LineFault) (s x : BuildState) (bytes : List ℕ) (held : Option (List ℕ)) (fault : LineFault) → o ≡ Some fault
     → Comes {T = T} held held s (elim o [ Some f ↦ tells f s | None ↦ x ]) (elim o [ Some f ↦ [] | None ↦ bytes ]) (Err (Refused fault))
 refused_at T o s x bytes held fault e =
-    subst (λ (o : Option LineFault). Comes {T = T} held held s (elim o [ Some f ↦ tells f s | None ↦ x ]) (elim o [ Some f ↦ [] | None ↦ bytes ]) (Err (Refused fault))) (sym e) (refl, sym (append_known_none held))
+    subst (λ (o : Option LineFault). Comes {T = T} held held s (elim o [ Some f ↦ tells f s | None ↦ x ]) (elim o [ Some f ↦ [] | None ↦ bytes ]) (Err (Refused fault))) (sym e) (refl, sym (known_nothing held))
 
 -- no check fails
 pub passed_at : {T : Type 0} (o : Option LineFault) (s x new : BuildState) (bytes : List ℕ) (held holds : Option (List ℕ)) (r : Result T LineHalt) → o ≡ None
@@ -33,7 +34,7 @@ passed_at {T} o s x new bytes held holds r e h =
 
 -- where the meta group does not end
 pub none_put : (t : Bool) (xs : List ℕ) (held : Option (List ℕ)) → t ≡ false → held ≡ append_known held (cond t xs [])
-none_put false xs held e = sym (append_known_none held)
+none_put false xs held e = sym (known_nothing held)
 none_put true xs held e = absurd (cc)
 
 -- where it ends
@@ -45,8 +46,8 @@ group_put r t bytes held holds e h = subst (λ u. Puts held holds (cond u bytes 
 
 -- behind what went out
 pub comes_behind : {T : Type 0} (held mid holds : Option (List ℕ)) (new x : BuildState) (first bytes : List ℕ) (r : Result T LineHalt) → mid ≡ append_known held first → Comes mid holds new x bytes r → Comes held holds new x (first ++ bytes) r
-comes_behind held mid holds new x first bytes (Ok y) went h = (h.0, h.1 ∙ ap (λ known. append_known known bytes) went ∙ append_known_twice held first bytes)
-comes_behind held mid holds new x first bytes (Err (Refused fault)) went h = (h.0, h.1 ∙ ap (λ known. append_known known bytes) went ∙ append_known_twice held first bytes)
+comes_behind held mid holds new x first bytes (Ok y) went h = (h.0, h.1 ∙ ap (λ known. append_known known bytes) went ∙ known_twice held first bytes)
+comes_behind held mid holds new x first bytes (Err (Refused fault)) went h = (h.0, h.1 ∙ ap (λ known. append_known known bytes) went ∙ known_twice held first bytes)
 comes_behind held mid holds new x first bytes (Err Output) went h = puts_behind {T = ℕ} {E = ℕ} held mid holds first bytes (Err 0) went h
 
 pub shown_after : {T : Type 0} (step : Step) (o : Option LineFault) (s t m n new : BuildState) (first : List ℕ) (held mid holds : Option (List ℕ)) (r : Result T LineHalt) → o ≡ None → m ≡ in_group step s → n ≡ in_group step t → mid ≡ append_known held first

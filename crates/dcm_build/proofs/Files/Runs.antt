@@ -1,7 +1,8 @@
 -- A file that is built from a whole input, and from a beginning of one.
-use Rattle.std.proofs.Common.{◌≡◌, ◌∙◌, ap, sym, refl, subst, ℕ, zero, suc, ◌+◌, ◌≤◌, List, [], ◌∷◌, ◌++◌, length, take, append_assoc, cond, Option, Some, None, Bool, true, false, ◌&&◌, ◌||◌, not, arith}
+use Rattle.std.proofs.Common.{◌≡◌, ◌∙◌, ap, sym, refl, subst, ℕ, ◌+◌, ◌≤◌, List, [], ◌∷◌, ◌++◌, length, append_assoc, cond, Option, Some, None, Bool, true, false, ◌&&◌, ◌||◌, not, arith}
 use Rattle.std.specs.Prelude.{fold, is_some, is_none}
 use Rattle.std.proofs.lemmas.List.{append-nil}
+use Rattle.dcm_lemmas.proofs.Lists.{take_none}
 use Rattle.dcm_base.specs.declared.level.Container.{Container}
 use Rattle.dcm_base.specs.declared.syntax.Coding.{Coding}
 use Rattle.dcm_base.specs.declared.fault.LineFault.{LineFault}
@@ -148,10 +149,6 @@ finishing limit p s rest out g =
     (ap (λ z. out ++ z) (fresh_finish_writes s g.told_is ∙ ap (λ z. z ++ closed_writes (last_line s)) (last_writes_by s rest g.line_is) ∙ ap (λ (x : BuildState). w ++ closed_writes x) last) ∙ sym (append_assoc out w (closed_writes t)))
 
 -- ---- the laws
-
-take_none : (n : ℕ) → take {A = ℕ} n [] ≡ []
-take_none zero = refl
-take_none (suc n) = refl
 
 size_read : (q r n : ℕ) → q + r ≡ (0 + 0) + n → n ≡ q + r
 size_read q r n e = omega (arith, e)

@@ -20,7 +20,7 @@ use Rattle.dcm_base.specs.Reading.Bars.{innermost_reached}
 use Rattle.dcm_base.specs.Lines.Build as build
 use Rattle.dcm_base.specs.Lines.Build.{Built, Refused, refused, first_fault, has_place_in, is_meta, is_opening, is_fragment_opening, allows_fragments, is_after, element_tag, lacks_value, coding_or_little, named_syntax, named_coding, no_elements, innermost, open_levels, with_step, built_bytes}
 use Rattle.dcm_base.specs.Tree.Front.{Front}
-use Rattle.dcm_base.specs.Lines.Line.{Step, show_leaf, begin_sequence, begin_fragments, begin_item, show_fragment, end_item, end_sequence, Meaning, nothing, one, no_line}
+use Rattle.dcm_base.specs.Lines.Line.{Step, show_leaf, begin_sequence, begin_fragments, begin_item, show_fragment, end_item, end_sequence, Meaning, nothing, one, by_characters, no_line}
 use Rattle.dcm_base.specs.File.MetaGroup.{META_LIMIT}
 use Rattle.dcm_base.specs.File.MetaReads.{PREFIX}
 use Rattle.dcm_base.specs.Conversion.NewMeta.{new_meta}
@@ -387,4 +387,5 @@ shown_follows step b s out f h =
 pub meaning_follows : (m : Meaning) (b : Built) (s : BuildState) (out : List ℕ) → MeansForm m → Stands b s out → Follows (build.with_meaning m b) s (meaning_taken m s) (out ++ meaning_writes m s)
 meaning_follows nothing b s out f h = (same_out b s out h, stays_there s)
 meaning_follows (one step) b s out f h = shown_follows step b s out f h
+meaning_follows by_characters b s out f h = (refl, append-nil out ∙ stands_bytes b s out h)
 meaning_follows no_line b s out f h = (refl, append-nil out ∙ stands_bytes b s out h)

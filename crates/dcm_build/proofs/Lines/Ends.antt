@@ -3,10 +3,11 @@ use Rattle.std.proofs.Common.{◌≡◌, ◌∙◌, ap, sym, subst, arith, ℕ, 
 use Rattle.std.specs.Prelude.{IsErrAnd}
 use Rattle.std.specs.Io.KnownBytes.{append_known}
 use Rattle.std.proofs.lemmas.List.{append-nil}
+use Rattle.dcm_lemmas.proofs.Options.{known_twice}
 use Rattle.dcm_base.specs.Lines.Build.{first_fault, without_return}
 use Rattle.dcm_base.specs.Lines.Line.{means}
 use Rattle.dcm_base.specs.declared.fault.LineFault.{LineFault}
-use Rattle.dcm_devices.proofs.Writes.Puts.{append_known_twice, front_longer, puts_behind}
+use Rattle.dcm_devices.proofs.Writes.Puts.{front_longer, puts_behind}
 use Rattle.dcm_build.specs.Halts.{BuildHalt}
 use Rattle.dcm_base.specs.declared.stopped.Stopped.TheVariants.{Refused, Output}
 use Rattle.dcm_build.specs.declared.file.NewFile.{NewFile}
@@ -77,7 +78,7 @@ pub whole_ended : {T : Type 0} (p q : LineReader) (held mid holds : Option (List
     → (building q None ≡ closed size s) × (holds ≡ append_known held (bytes ++ closed_writes s))
 whole_ended p q held mid holds s bytes size x e put at h = (
   ap (λ (a : LineAt). state q.file a None) at ∙ h.0 ∙ closed_at size p None h.1 ∙ ap (closed size) e,
-  h.2 ∙ ap (λ (known : Option (List ℕ)). append_known known (end_writes (seen p.file))) put ∙ append_known_twice held bytes (end_writes (seen p.file)) ∙ ap (λ (t : BuildState). append_known held (bytes ++ closed_writes t)) e,
+  h.2 ∙ ap (λ (known : Option (List ℕ)). append_known known (end_writes (seen p.file))) put ∙ known_twice held bytes (end_writes (seen p.file)) ∙ ap (λ (t : BuildState). append_known held (bytes ++ closed_writes t)) e,
 )
 
 end_refused : (T : Type 0) (p q : LineReader) (held mid holds : Option (List ℕ)) (bytes : List ℕ) (size : ℕ) (stopped : LineHalt) → mid ≡ append_known held bytes → line_at q ≡ line_at p
@@ -85,7 +86,7 @@ end_refused : (T : Type 0) (p q : LineReader) (held mid holds : Option (List ℕ
     → Reaches {T = T} held holds (building q) (closed size (building p None)) (bytes ++ closed_writes (building p None)) (Err (halts stopped size p.number))
 end_refused T p q held mid holds bytes size (Refused fault) put at h = (
   ap (λ (a : LineAt). state q.file a (Some (record { fault = fault; offset = size; line = p.number }))) at ∙ ap (tells_at_end size fault) h.0 ∙ closed_at size p (Some fault) h.1,
-  h.2 ∙ ap (λ (known : Option (List ℕ)). append_known known (end_writes (seen p.file))) put ∙ append_known_twice held bytes (end_writes (seen p.file)),
+  h.2 ∙ ap (λ (known : Option (List ℕ)). append_known known (end_writes (seen p.file))) put ∙ known_twice held bytes (end_writes (seen p.file)),
 )
 end_refused T p q held mid holds bytes size Output put at h = puts_behind {T = T} {E = Unit {0}} held mid holds bytes (end_writes (seen p.file)) (Err tt) put h
 

@@ -1,6 +1,7 @@
 -- What the lines of a dump mean has the form that it says.
 use Rattle.std.proofs.Common.{◌≡◌, refl, ℕ, List, cond, Option, Some, None, Bool, true, false, ◌&&◌}
 use Rattle.std.specs.Prelude.{codes, bytes_eq}
+use Rattle.dcm_lemmas.proofs.Truth.{and_first}
 use Rattle.dcm_base.specs.declared.tag.Tag.{Tag}
 use Rattle.dcm_base.specs.declared.vr.Vr.{Vr}
 use Rattle.dcm_base.specs.declared.vr.Vr.TheVariants.{SQ, UN, OB, OW}
@@ -12,12 +13,13 @@ use Rattle.dcm_base.specs.Bytes.Spelling.{form}
 use Rattle.dcm_base.specs.Tables.Tag.{is_item, is_item_end, is_sequence_end}
 use Rattle.dcm_base.specs.Lines.ReadValue.{value_of_text}
 use Rattle.dcm_base.specs.Tables.Representation.{vr_of}
-use Rattle.dcm_base.specs.Lines.Line.{Step, show_leaf, begin_sequence, begin_fragments, begin_item, show_fragment, end_item, end_sequence, Meaning, nothing, one, no_line, means, with_value, only_where, value_field, is_skipped, begins, item_meaning, element_meaning, may_be_sequence, may_be_fragments, is_item_group, Parts, parts, meaning_of}
+use Rattle.dcm_base.specs.Lines.Line.{Step, show_leaf, begin_sequence, begin_fragments, begin_item, show_fragment, end_item, end_sequence, Meaning, nothing, one, by_characters, no_line, is_marked, comment_meaning, means, with_value, only_where, value_field, is_skipped, begins, item_meaning, element_meaning, may_be_sequence, may_be_fragments, is_item_group, Parts, parts, meaning_of}
 use Rattle.dcm_build.proofs.Files.Shows.{HasForm}
 
 abbrev pub MeansForm : Meaning → Type 0
 MeansForm nothing = Unit {0}
 MeansForm (one step) = HasForm step
+MeansForm by_characters = Unit {0}
 MeansForm no_line = Unit {0}
 
 either : (b : Bool) (m n : Meaning) → MeansForm m → MeansForm n → MeansForm (cond b m n)
@@ -60,17 +62,13 @@ list_form OB h = refl
 list_form OW h = refl
 list_form vr h = absurd (let no : false ≡ true = h in cc)
 
-both_first : (a b : Bool) → a && b ≡ true → a ≡ true
-both_first true b h = refl
-both_first false b h = h
-
 element_form : (tag : Tag) (vr : Option Vr) (cs : List ℕ) → MeansForm (element_meaning tag vr cs)
 element_form tag None cs = tt
 element_form tag (Some vr) cs =
     let rest : Meaning = with_value (λ v. show_leaf tag vr (value_of_text vr v)) cs in
     let lists : Meaning = cond (may_be_fragments vr && begins (codes "(PixelSequence") cs) (one (begin_fragments tag vr)) rest in
-    where_true (may_be_sequence vr && begins (codes "(Sequence with") cs) (one (begin_sequence tag vr)) lists (λ e. sequence_form vr (both_first (may_be_sequence vr) _ e))
-    (where_true (may_be_fragments vr && begins (codes "(PixelSequence") cs) (one (begin_fragments tag vr)) rest (λ e. list_form vr (both_first (may_be_fragments vr) _ e))
+    where_true (may_be_sequence vr && begins (codes "(Sequence with") cs) (one (begin_sequence tag vr)) lists (λ e. sequence_form vr (and_first (may_be_sequence vr) _ e))
+    (where_true (may_be_fragments vr && begins (codes "(PixelSequence") cs) (one (begin_fragments tag vr)) rest (λ e. list_form vr (and_first (may_be_fragments vr) _ e))
     (value_form (λ v. show_leaf tag vr (value_of_text vr v)) cs (λ v. text_form tag vr v)))
 
 item_form : (tag : Tag) (letters cs : List ℕ) → MeansForm (item_meaning tag letters cs)
@@ -89,4 +87,4 @@ meaning_form None = tt
 meaning_form (Some p) = either (is_item_group p.tag) (item_meaning p.tag p.letters p.rest) (element_meaning p.tag (vr_of p.letters) p.rest) (item_form p.tag p.letters p.rest) (element_form p.tag (vr_of p.letters) p.rest)
 
 pub means_form : (line : List ℕ) → MeansForm (means line)
-means_form line = either (is_skipped line) nothing (meaning_of (parts line)) tt (meaning_form (parts line))
+means_form line = either (is_skipped line) (comment_meaning line) (meaning_of (parts line)) (either (is_marked line) by_characters nothing tt tt) (meaning_form (parts line))

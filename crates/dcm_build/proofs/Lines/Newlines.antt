@@ -4,6 +4,7 @@ use Rattle.std.specs.Prelude.{fold, nat_le, ◌==◌}
 use Rattle.std.specs.Str.{byte}
 use Rattle.std.proofs.lemmas.Bool.Decides.{nat_tests}
 use Rattle.std.proofs.lemmas.List.{append-nil}
+use Rattle.dcm_lemmas.proofs.Numbers.{above_not_within}
 use Rattle.dcm_base.specs.Reading.Reads.{INPUT_LIMIT}
 use Rattle.dcm_base.specs.Steps.Steps.{outputs}
 use Rattle.dcm_build.specs.declared.file.NewFile.{NewFile}
@@ -17,18 +18,15 @@ in_line false true room a b c d x y z = absurd (cc)
 in_line false false true a b c d x y z = refl
 in_line false false false a b c d x y z = absurd (cc)
 
-pub not_cut : (limit n : ℕ) → n < limit → nat_le limit n ≡ false
-not_cut limit n h = grind (arith, nat_tests, h)
-
 has_room : (limit n : ℕ) → n < limit → nat_lt n limit ≡ true
 has_room limit n h = grind (arith, nat_tests, h)
 
 byte_taken : (f : NewFile) (at : LineAt) (b : ℕ) → (b == byte "\n") ≡ false → at.offset + length at.line < INPUT_LIMIT → length at.line < at.limit → build_step (state f at None) b ≡ state f (more at (b ∷ [])) None
 byte_taken f at b plain within room =
-    in_line (nat_le INPUT_LIMIT (at.offset + length at.line)) (b == byte "\n") (nat_lt (length at.line) at.limit) _ _ _ _ (not_cut INPUT_LIMIT (at.offset + length at.line) within) plain (has_room at.limit (length at.line) room)
+    in_line (nat_le INPUT_LIMIT (at.offset + length at.line)) (b == byte "\n") (nat_lt (length at.line) at.limit) _ _ _ _ (above_not_within INPUT_LIMIT (at.offset + length at.line) within) plain (has_room at.limit (length at.line) room)
 
 byte_silent : (f : NewFile) (at : LineAt) (b : ℕ) → (b == byte "\n") ≡ false → at.offset + length at.line < INPUT_LIMIT → build_writes (state f at None) b ≡ []
-byte_silent f at b plain within = quiet (nat_le INPUT_LIMIT (at.offset + length at.line)) (b == byte "\n") _ (not_cut INPUT_LIMIT (at.offset + length at.line) within) plain
+byte_silent f at b plain within = quiet (nat_le INPUT_LIMIT (at.offset + length at.line)) (b == byte "\n") _ (above_not_within INPUT_LIMIT (at.offset + length at.line) within) plain
   where
     quiet : (cut newline : Bool) (bs : List ℕ) → cut ≡ false → newline ≡ false → cond cut [] (cond newline bs []) ≡ []
     quiet true newline bs x y = refl
@@ -60,7 +58,7 @@ going_on false a b e = refl
 
 -- a newline ends the line
 pub newline_taken : (f : NewFile) (at : LineAt) → read at < INPUT_LIMIT → build_step (state f at None) (byte "\n") ≡ line_taken (state f at None)
-newline_taken f at within = going_on (nat_le INPUT_LIMIT (read at)) _ _ (not_cut INPUT_LIMIT (read at) within)
+newline_taken f at within = going_on (nat_le INPUT_LIMIT (read at)) _ _ (above_not_within INPUT_LIMIT (read at) within)
 
 pub newline_writes : (f : NewFile) (at : LineAt) → read at < INPUT_LIMIT → build_writes (state f at None) (byte "\n") ≡ line_writes (state f at None)
-newline_writes f at within = going_on (nat_le INPUT_LIMIT (read at)) _ _ (not_cut INPUT_LIMIT (read at) within)
+newline_writes f at within = going_on (nat_le INPUT_LIMIT (read at)) _ _ (above_not_within INPUT_LIMIT (read at) within)

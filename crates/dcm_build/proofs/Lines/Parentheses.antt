@@ -1,17 +1,10 @@
 -- The closing parenthesis of a field, found byte by byte.
-use Rattle.std.proofs.Common.{◌≡◌, ◌∙◌, ap, sym, refl, ℕ, ◌+◌, ◌-◌, ◌<◌, List, [], ◌∷◌, length, take, drop, get_or, Bool, true, false, if◌then◌else◌}
+use Rattle.std.proofs.Common.{◌≡◌, ◌∙◌, ap, sym, ℕ, ◌+◌, ◌-◌, ◌<◌, List, [], ◌∷◌, length, take, drop, get_or, true, false}
 use Rattle.std.proofs.lemmas.List.{drop_more, take_rest}
-use Rattle.dcm_base.specs.Lines.Line.{Field, field, with_front, through_parenthesis}
+use Rattle.dcm_lemmas.proofs.Choice.{if_false, if_true}
+use Rattle.dcm_base.specs.Lines.Line.{field, with_front, through_parenthesis}
 use Rattle.dcm_build.specs.LineShown.{is_closed}
 use Rattle.dcm_build.proofs.Lines.Fields.{Passed, one_passed, ends_with}
-
-first_of : (t : Bool) (a b : Field) → t ≡ true → (if t then a else b) ≡ a
-first_of true a b e = refl
-first_of false a b e = cc
-
-second_of : (t : Bool) (a b : Field) → t ≡ false → (if t then a else b) ≡ b
-second_of true a b e = cc
-second_of false a b e = refl
 
 module _ (bytes : List ℕ) (i : ℕ) (h : i < length bytes) (p : Passed through_parenthesis bytes i (drop i bytes)) where
   abbrev c : ℕ
@@ -28,7 +21,7 @@ module _ (bytes : List ℕ) (i : ℕ) (h : i < length bytes) (p : Passed through
   sliced = take_rest bytes i ∙ here
 
   pub past_one : is_closed (take (length bytes - i) (drop i bytes)) ≡ false → Passed through_parenthesis bytes (i + 1) after
-  past_one t = one_passed through_parenthesis bytes i (drop i bytes) p c after here (second_of (is_closed (c ∷ after)) (field (c ∷ []) after) (with_front c (through_parenthesis after)) (sym (ap is_closed sliced) ∙ t))
+  past_one t = one_passed through_parenthesis bytes i (drop i bytes) p c after here (if_false (is_closed (c ∷ after)) (field (c ∷ []) after) (with_front c (through_parenthesis after)) (sym (ap is_closed sliced) ∙ t))
 
   pub at_closing : is_closed (take (length bytes - i) (drop i bytes)) ≡ true → through_parenthesis bytes ≡ field (take (i + 1) bytes) (drop (i + 1) bytes)
-  at_closing t = ends_with through_parenthesis bytes i (drop i bytes) p c after here (first_of (is_closed (c ∷ after)) (field (c ∷ []) after) (with_front c (through_parenthesis after)) (sym (ap is_closed sliced) ∙ t))
+  at_closing t = ends_with through_parenthesis bytes i (drop i bytes) p c after here (if_true (is_closed (c ∷ after)) (field (c ∷ []) after) (with_front c (through_parenthesis after)) (sym (ap is_closed sliced) ∙ t))

@@ -5,12 +5,14 @@ use Rattle.std.specs.Str.{byte}
 use Rattle.std.specs.Io.KnownBytes.{append_known}
 use Rattle.std.proofs.lemmas.Bool.{ne_eqb, le-ltb, le-leb}
 use Rattle.std.proofs.lemmas.List.{append-nil, take-take}
+use Rattle.dcm_lemmas.proofs.Numbers.{above_not_within}
+use Rattle.dcm_lemmas.proofs.Options.{known_nothing}
 use Rattle.dcm_base.specs.declared.fault.LineStop.{LineStop}
 use Rattle.dcm_devices.specs.Device.{AppendsFront}
 use Rattle.dcm_base.specs.Reading.Reads.{INPUT_LIMIT}
 use Rattle.dcm_base.specs.Steps.Steps.{outputs}
 use Rattle.dcm_base.specs.declared.fault.LineFault.TheVariants.{LineTooLong, TooLong}
-use Rattle.dcm_devices.proofs.Writes.Puts.{append_known_none, front_longer}
+use Rattle.dcm_devices.proofs.Writes.Puts.{front_longer}
 use Rattle.dcm_build.specs.Halts.{BuildHalt}
 use Rattle.dcm_base.specs.declared.stopped.Stopped.TheVariants.{Refused, Output}
 use Rattle.dcm_build.specs.declared.file.NewFile.{NewFile}
@@ -18,7 +20,7 @@ use Rattle.dcm_build.specs.declared.line_reader.LineReader.{LineReader}
 use Rattle.dcm_build.specs.Builder.{line_at, building, more, read, Plain, Stands, halts, Reaches, Feeds, bytes_read}
 use Rattle.dcm_build.specs.Building.{BuildState, build_step, build_writes, line_taken, line_writes}
 use Rattle.dcm_build.specs.NewFile.{LineAt, state}
-use Rattle.dcm_build.proofs.Lines.Newlines.{not_cut, line_grows, line_silent, newline_taken, newline_writes}
+use Rattle.dcm_build.proofs.Lines.Newlines.{line_grows, line_silent, newline_taken, newline_writes}
 
 -- ---- bytes without a newline
 
@@ -42,7 +44,7 @@ pub bytes_taken : (p q : LineReader) (held : Option (List ℕ)) (bs : List ℕ) 
     → (building q None ≡ fold build_step (building p None) bs) × (held ≡ append_known held (outputs build_step build_writes (building p None) bs))
 bytes_taken p q held bs file at plain within room = (
   ap (λ (f : NewFile). state f (line_at q) None) file ∙ ap (λ (a : LineAt). state p.file a None) at ∙ sym (line_grows p.file (line_at p) bs plain within room),
-  sym (append_known_none held) ∙ ap (append_known held) (sym (line_silent p.file (line_at p) bs plain within room)),
+  sym (known_nothing held) ∙ ap (append_known held) (sym (line_silent p.file (line_at p) bs plain within room)),
 )
 
 pub more_stands : (at new : LineAt) (bs : List ℕ) → new ≡ more at bs → Stands at → read at + length bs ≤ INPUT_LIMIT → length at.line + length bs ≤ at.limit → Stands new
@@ -93,7 +95,7 @@ limit_at T p held piece halt some past is =
     let cut : nat_le INPUT_LIMIT (read (line_at p)) ≡ true = le-leb _ _ past in
     subst (λ (x : BuildHalt). Feeds {T = T} (building p None) held (building p) held piece (Err x)) (sym is)
     (feeds_first T (building p None) p held held piece (halts (Refused TooLong) INPUT_LIMIT 0) some
-    (cut_at (nat_le INPUT_LIMIT (read (line_at p))) _ _ cut, sym (append_known_none held) ∙ ap (append_known held) (cut_at (nat_le INPUT_LIMIT (read (line_at p))) _ _ cut)))
+    (cut_at (nat_le INPUT_LIMIT (read (line_at p))) _ _ cut, sym (known_nothing held) ∙ ap (append_known held) (cut_at (nat_le INPUT_LIMIT (read (line_at p))) _ _ cut)))
 
 -- a byte that is no newline, for which the line has no room
 no_room : {A : Type 0} (cut newline room : Bool) (a b c d : A) → cut ≡ false → newline ≡ false → room ≡ false → d ≡ cond cut a (cond newline b (cond room c d))
@@ -116,12 +118,12 @@ pub too_long : (T : Type 0) (p : LineReader) (held : Option (List ℕ)) (piece f
     → Feeds {T = T} (building p None) held (building p) held piece (Err halt)
 too_long T p held piece front m halt some within e room newline not is =
     let passed : nat_lt (length p.line.items) p.limit ≡ false = le-ltb (length p.line.items) p.limit (room (full piece front m e some newline not)) in
-    let going : nat_le INPUT_LIMIT (read (line_at p)) ≡ false = not_cut INPUT_LIMIT (read (line_at p)) within in
+    let going : nat_le INPUT_LIMIT (read (line_at p)) ≡ false = above_not_within INPUT_LIMIT (read (line_at p)) within in
     let other : (get_or piece 0 0 == byte "\n") ≡ false = ne_eqb (get_or piece 0 0) (byte "\n") not in
     subst (λ (x : BuildHalt). Feeds {T = T} (building p None) held (building p) held piece (Err x)) (sym is)
     (feeds_first T (building p None) p held held piece (halts (Refused LineTooLong) p.offset p.number) some (
       no_room (nat_le INPUT_LIMIT (read (line_at p))) (get_or piece 0 0 == byte "\n") (nat_lt (length p.line.items) p.limit) _ _ _ _ going other passed,
-      sym (append_known_none held) ∙ ap (append_known held) (silent (nat_le INPUT_LIMIT (read (line_at p))) (get_or piece 0 0 == byte "\n") _ going other),
+      sym (known_nothing held) ∙ ap (append_known held) (silent (nat_le INPUT_LIMIT (read (line_at p))) (get_or piece 0 0 == byte "\n") _ going other),
     ))
   where
     silent : (cut newline : Bool) (bs : List ℕ) → cut ≡ false → newline ≡ false → [] ≡ cond cut [] (cond newline bs [])

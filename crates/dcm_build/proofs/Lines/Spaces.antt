@@ -2,7 +2,7 @@
 use Rattle.std.proofs.Common.{◌≡◌, ◌∙◌, ap, refl, sym, ℕ, List, [], ◌∷◌, take, drop, Bool, true, false, cond, Option, None, Some}
 use Rattle.std.specs.Prelude.{◌==◌, if◌then◌else◌}
 use Rattle.dcm_base.specs.Lines.ReadValue.{◌>>=◌, tag_of_text}
-use Rattle.dcm_base.specs.Lines.Line.{Parts, space, is_end, without_spaces, past_spaces, parts, meaning_of, means, nothing}
+use Rattle.dcm_base.specs.Lines.Line.{Parts, space, is_end, without_spaces, past_spaces, parts, comment_meaning, meaning_of, means}
 
 by_test : (c : ℕ) (cs : List ℕ) (b : Bool) → (c == space) ≡ b → without_spaces (without_spaces cs) ≡ without_spaces cs
     → without_spaces (cond b (without_spaces cs) (c ∷ cs)) ≡ cond b (without_spaces cs) (c ∷ cs)
@@ -22,5 +22,5 @@ parts_after body =
 
 pub line_means : (line text : List ℕ) → text ≡ without_spaces line → is_end text ≡ false → means line ≡ meaning_of (parts text)
 line_means line text passed more =
-    ap (λ (b : Bool). cond b nothing (meaning_of (parts line))) (ap is_end (sym passed) ∙ more)
+    ap (λ (b : Bool). cond b (comment_meaning line) (meaning_of (parts line))) (ap is_end (sym passed) ∙ more)
     ∙ ap (λ (body : List ℕ). meaning_of (parts_after body)) (sym (ap without_spaces passed ∙ spaces_once line))

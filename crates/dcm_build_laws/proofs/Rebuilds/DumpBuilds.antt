@@ -1,11 +1,13 @@
 -- A full dump builds its file again.
-use Rattle.std.proofs.Common.{◌≡◌, ◌∙◌, ap, sym, refl, subst, ℕ, ◌≤◌, List, [], ◌∷◌, ◌++◌, length, take, replicate, codes, cond, Option, Some, None, Bool, true, false, ◌&&◌, ◌||◌, not, arith}
-use Rattle.std.specs.Prelude.{find, bytes_eq, nat_le, is_none, is_some}
+use Rattle.std.proofs.Common.{◌≡◌, ◌∙◌, ap, sym, refl, subst, ℕ, ◌≤◌, List, [], ◌∷◌, ◌++◌, length, take, replicate, codes, cond, Option, Some, None, Bool, true, false, ◌&&◌, not, arith}
+use Rattle.std.specs.Prelude.{find, flat_map, bytes_eq, nat_le, is_none, is_some}
 use Rattle.std.specs.List.{list_all}
 use Rattle.std.specs.Option.{option_map_or}
 use Rattle.std.proofs.lemmas.Bool.{le-ltb}
 use Rattle.std.proofs.lemmas.List.{append-nil}
 use Rattle.std.proofs.lemmas.List.Folds.{list_all-append}
+use Rattle.dcm_lemmas.proofs.Options.{mapped}
+use Rattle.dcm_lemmas.proofs.Truth.{or_second}
 use Rattle.dcm_base.specs.declared.tag.Tag.{Tag}
 use Rattle.dcm_base.specs.declared.syntax.Coding.{Coding}
 use Rattle.dcm_base.specs.declared.fault.LineFault.{LineFault}
@@ -13,7 +15,7 @@ use Rattle.dcm_base.specs.declared.fault.LineFault.TheVariants.{NoTransferSyntax
 use Rattle.dcm_base.specs.declared.mode.Mode.TheVariants.{Full}
 use Rattle.dcm_base.specs.Dump.Dump.{dump_set}
 use Rattle.dcm_base.specs.Tree.Front.{Front, front, nothing_open}
-use Rattle.dcm_base.specs.Dump.Header.{syntax_name, set_header, meta_header}
+use Rattle.dcm_base.specs.Dump.Header.{identifier_byte, syntax_name, set_header, meta_header}
 use Rattle.dcm_base.specs.File.MetaReads.{PREFIX}
 use Rattle.dcm_base.specs.Conversion.NewMeta.{new_meta}
 use Rattle.dcm_base.specs.Reading.Reads.{INPUT_LIMIT}
@@ -22,12 +24,11 @@ use Rattle.dcm_base.specs.Reading.Size.{trees_size}
 use Rattle.dcm_base.specs.Bytes.Spelling.{last_tag}
 use Rattle.dcm_base.specs.Tree.Tree.{Trees, no_tree}
 use Rattle.dcm_base.specs.Tables.Uid.{Named, uids, uid_name}
-use Rattle.dcm_base.specs.Dump.ValueText.{escaped}
-use Rattle.dcm_base.specs.Lines.Build.{Built, Progress, Lines, lines, lines_of, built, built_cut, built_whole, built_bytes, nothing_built, usable, named_syntax, named_coding, coding_or_little, at_start, at_input_end, end_checks, first_fault, meta_has_ended, tell, is_the_top, innermost, open_levels, rebuilt}
+use Rattle.dcm_base.specs.Lines.Build.{Built, Progress, Lines, lines, lines_of, built, built_cut, built_whole, built_bytes, nothing_built, usable, named_syntax, named_coding, coding_or_little, with_meaning, at_start, at_input_end, end_checks, first_fault, meta_has_ended, tell, is_the_top, innermost, open_levels, rebuilt}
 use Rattle.dcm_base.specs.declared.fault.LineStop.{LineStop}
-use Rattle.dcm_base_laws.proofs.DumpsBack.Fields.{Bytewise, IsPrinted, all_printed, text_shows}
+use Rattle.dcm_base_laws.proofs.DumpsBack.Fields.{all_printed}
 use Rattle.dcm_base.proofs.DumpsBack.Texts.{Bytes, bytes_of}
-use Rattle.dcm_base.proofs.DumpsBack.Values.{found, mapped}
+use Rattle.dcm_base.proofs.DumpsBack.Values.{found}
 use Rattle.dcm_base_laws.proofs.DumpsBack.Losses.{recodes_same}
 use Rattle.dcm_base.specs.declared.dictionary.Dictionary.{Dictionary}
 use Rattle.dcm_build_laws.specs.DumpBuilds.{full_dump, CanBuild, FitsLines, BuildsFile}
@@ -39,6 +40,7 @@ use Rattle.dcm_build_laws.proofs.Rebuilds.DumpLines.{set_means}
 use Rattle.dcm_build_laws.proofs.Rebuilds.LinesLead.{is_printed, TextLeads, text_leads, texts_lead, silent_line, lines_of_text, lines_run}
 use Rattle.dcm_build_laws.proofs.Rebuilds.MetaBuilds.{group_built, group_leads, same_syntax, same_group}
 use Rattle.dcm_build_laws.proofs.Rebuilds.StepsBuild.{all_built}
+use Rattle.dcm_build_laws.proofs.Rebuilds.Unmarked.{used_is_silent, identifier_is_printed}
 
 -- ---- the header
 
@@ -56,15 +58,11 @@ name_is_printed uid name p =
     let q = found (λ u. bytes_eq u.0 uid) has_printed_name uids m.0 all_names m.1 in
     subst (λ n. is_printed n ≡ true) m.2 q.0
 
-front_printed : (xs ys : List ℕ) → Bytewise IsPrinted (xs ++ ys) → Bytewise IsPrinted xs
-front_printed [] ys h = tt
-front_printed (x ∷ xs) ys h = (h.0, front_printed xs ys h.1)
-
 syntax_is_printed : (uid : List ℕ) → Bytes uid → is_printed (syntax_name uid) ≡ true
 syntax_is_printed uid h = by_name (uid_name uid) refl
   where
-    by_name : (o : Option (List ℕ)) → uid_name uid ≡ o → is_printed (option_map_or (λ name. name) o (escaped uid)) ≡ true
-    by_name None e = all_printed (escaped uid) (front_printed (escaped uid) (93 ∷ []) (text_shows uid h).printed.1)
+    by_name : (o : Option (List ℕ)) → uid_name uid ≡ o → is_printed (option_map_or (λ name. name) o (flat_map identifier_byte uid)) ≡ true
+    by_name None e = all_printed (flat_map identifier_byte uid) (identifier_is_printed uid h)
     by_name (Some name) e = name_is_printed uid name e
 
 abbrev dump_head : List ℕ
@@ -89,7 +87,7 @@ set_header_leads uid b h = record {
   its_lines = codes "# Dicom-Data-Set" ∷ (codes "# Used TransferSyntax: " ++ syntax_name uid) ∷ [];
   is = refl;
   printed = (refl, (used_printed (syntax_name uid) (syntax_is_printed uid h), tt));
-  leads = λ w. (b, refl, (b, refl, refl));
+  leads = λ w. (b, refl, (b, ap (λ m. with_meaning m b) (used_is_silent uid h), refl));
 }
 
 -- ---- the end of the input
@@ -98,10 +96,6 @@ no_fault_at_end : (e n t : Bool) → n ≡ false → t ≡ true → first_fault 
 no_fault_at_end true false true hn ht = refl
 no_fault_at_end false false true hn ht = refl
 no_fault_at_end e n t hn ht = absurd (cc)
-
-or_true : (e t : Bool) → t ≡ true → e || t ≡ true
-or_true true t h = refl
-or_true false t h = h
 
 top_is_open : (whole : Trees) (reached : Option Tag) → is_the_top (innermost (open_levels (front whole nothing_open reached false))) ≡ true
 unfolding standing_in
@@ -158,7 +152,7 @@ module _ (d : Dictionary) (meta : Trees) (coding : Coding) (set : Trees) (h : Ca
       ap (λ (x : Trees). built_bytes (meta_has_ended (record { meta = x; meta_ended = e; set = f }))) is
       ∙ ap (λ (x : Front). built_bytes (meta_has_ended (record { meta = rebuilt meta; meta_ended = e; set = x }))) set_is
       ∙ ap (λ (t : Bool). cond t (replicate 128 0 ++ PREFIX ++ new_meta (rebuilt meta) (named_syntax (rebuilt meta)) ++ recode (coding_or_little (named_coding (rebuilt meta))) (front (rebuilt set) nothing_open (last_tag None set) false)) [])
-      (or_true e (is_some (named_coding (rebuilt meta))) (ap is_some again))
+      (or_second e (is_some (named_coding (rebuilt meta))) (ap is_some again))
       ∙ ap (λ (u : List ℕ). replicate 128 0 ++ PREFIX ++ new_meta (rebuilt meta) u ++ recode (coding_or_little (named_coding (rebuilt meta))) (front (rebuilt set) nothing_open (last_tag None set) false)) (same_syntax meta)
       ∙ ap (λ (g : List ℕ). replicate 128 0 ++ PREFIX ++ g ++ recode (coding_or_little (named_coding (rebuilt meta))) (front (rebuilt set) nothing_open (last_tag None set) false)) (same_group uid meta h.group)
       ∙ ap (λ (c : Option Coding). replicate 128 0 ++ PREFIX ++ new_meta meta uid ++ recode (coding_or_little c) (front (rebuilt set) nothing_open (last_tag None set) false)) again

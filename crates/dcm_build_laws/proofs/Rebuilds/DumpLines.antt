@@ -1,5 +1,6 @@
 -- The lines of a full dump mean the steps of what it shows.
 use Rattle.std.proofs.Common.{◌≡◌, ◌∙◌, ap, sym, refl, subst, ℕ, ◌+◌, ◌-◌, ◌≤◌, ◌<◌, List, [], ◌∷◌, ◌++◌, append_assoc, length, length-append, replicate, map, flat_map, codes, decimal, Some, arith}
+use Rattle.dcm_lemmas.proofs.Lists.{four_joined}
 use Rattle.dcm_base.specs.declared.tag.Tag.{Tag}
 use Rattle.dcm_base.specs.declared.vr.Vr.{Vr}
 use Rattle.dcm_base.specs.declared.vr.Vr.TheVariants.{OB}
@@ -107,9 +108,6 @@ fragment_means k level v r =
 
 -- ---- data sets
 
-four : (a b c d : List ℕ) → ((a ++ b) ++ c) ++ d ≡ a ++ (b ++ (c ++ d))
-four a b c d = append_assoc (a ++ b) c d ∙ append_assoc a b (c ++ d)
-
 is_small : (size : Length) → HasLength size → IsSmall size
 is_small (Known n) h = omega (arith, h)
 is_small Undefined h = tt
@@ -129,7 +127,7 @@ mutual
       both_texts _ _ (_ ∷ []) (set_steps rest) (leaf_means k level tag vr v h.0 h.1) (set_means k level rest h.2)
   set_means k level (sequence tag vr declared items rest) h =
       subst (λ (t : List ℕ). ShortMeans t (set_steps (sequence tag vr declared items rest)))
-      (sym (four (sequence_line k level tag vr declared) (dump_items k Full (level + 1) items) (sequence_end_line k level declared) (dump_set k Full level rest)))
+      (sym (four_joined (sequence_line k level tag vr declared) (dump_items k Full (level + 1) items) (sequence_end_line k level declared) (dump_set k Full level rest)))
       (both_texts _ _ (_ ∷ []) _ (one_line _ _ (sequence_reads k level tag vr declared (is_small declared h.2) h.0.0 h.0.1 h.1))
       (both_texts _ _ (items_steps items) _ (items_mean k (level + 1) items h.3)
       (both_texts _ _ (_ ∷ []) (set_steps rest) (one_line _ _ (sequence_end_reads k level declared)) (set_means k level rest h.4))))
@@ -144,7 +142,7 @@ mutual
   items_mean k level no_item h = no_text
   items_mean k level (item declared set rest) h =
       subst (λ (t : List ℕ). ShortMeans t (items_steps (item declared set rest)))
-      (sym (four (item_line k level declared) (dump_set k Full (level + 1) set) (item_end_line k level declared) (dump_items k Full level rest)))
+      (sym (four_joined (item_line k level declared) (dump_set k Full (level + 1) set) (item_end_line k level declared) (dump_items k Full level rest)))
       (both_texts _ _ (_ ∷ []) _ (one_line _ _ (item_reads k level declared (is_small declared h.0)))
       (both_texts _ _ (set_steps set) _ (set_means k (level + 1) set h.1)
       (both_texts _ _ (_ ∷ []) (items_steps rest) (one_line _ _ (item_end_reads k level declared)) (items_mean k level rest h.2))))

@@ -35,14 +35,15 @@ use Rattle.dcm_base.specs.Lines.Line.{may_be_sequence, may_be_fragments}
 use Rattle.dcm_base.specs.Lines.Build.{usable, named_syntax, named_coding}
 use Rattle.dcm_base.proofs.DumpsBack.Numbers.{Bytes-append, Bytes-reverse}
 use Rattle.dcm_base.proofs.Conversions.Order.{order_twice}
-use Rattle.dcm_base.proofs.DumpsBack.Parts.{Bytes-take, Bytes-drop}
+use Rattle.dcm_base.proofs.DumpsBack.Parts.{Bytes-take, Bytes-drop, Bytes-drop as bytes_behind}
 use Rattle.dcm_base.proofs.DataSets.Sizes.{trees_take}
 use Rattle.dcm_base.proofs.DumpsBack.Texts.{Bytes, bytes_of}
 use Rattle.dcm_base.specs.declared.dictionary.Dictionary.{Dictionary}
 use Rattle.dcm_base.specs.declared.dictionary.Dictionary.TheVariants.{Extract, Standard, Signed}
 use Rattle.dcm_base.specs.Reading.Bars.{holds_fragments}
+use Rattle.dcm_base_laws.proofs.DataSets.ImplicitLengths.{is_no_sequence}
 use Rattle.dcm_sinks.proofs.ReadBack.RecodeReads.{source_whole, source_fine}
-use Rattle.dcm_sinks.proofs.ReadBack.Sources.{bytes_behind, bytes_parts, a_byte, four_bytes, long_known, length_known, bytes_of_head, spelled_no_sequence, fragments_little, Fine, fine_bytes, lists_of, begun, enclosed_ready, element_tag}
+use Rattle.dcm_sinks.proofs.ReadBack.Sources.{bytes_parts, a_byte, four_bytes, long_known, length_known, bytes_of_head, spelled_no_sequence, fragments_little, Fine, fine_bytes, lists_of, begun, enclosed_ready, element_tag}
 use Rattle.dcm_sinks.proofs.ReadBack.WrittenRead.{target_heads}
 use Rattle.dcm_build_laws.specs.DumpBuilds.{full_dump, CanBuild, FitsLines, BuildsFile, FileRead, WholeUnits, ItemsOfWholeUnits}
 use Rattle.dcm_base.specs.Lines.Limits.{LINE_LIMIT}
@@ -81,10 +82,6 @@ data_group t h =
       λ e. (let f : (t.group == 0xFFFE) ≡ true = ap (λ (g : ℕ). g == 0xFFFE) e in let no = k.0 in cc),
       λ e. (let f : (t.group == 2) ≡ true = ap (λ (g : ℕ). g == 2) e in let no = k.1 in cc),
     )
-
-plain_vr : (vr : Vr) → vr ≢ SQ → is_sequence vr ≡ false
-plain_vr SQ h = absurd (h refl)
-plain_vr vr h = refl
 
 sequence_vr : (s : Syntax) (vr : Vr) (l : Length) → form s vr l ≡ a_sequence → may_be_sequence vr ≡ true
 unfolding form
@@ -184,7 +181,7 @@ module _ (d : Dictionary) (coding : Coding) where
         let apart = data_group t g.accepted.0 in (
           (
             (
-              ((element_tag s t vr (Known (length v)) b (order s vr v ++ o) head k, apart.0), reads_back vr v (plain_vr vr (spelled_no_sequence s t vr (length v) fo)) (value_bytes s vr v behind.0) (length_known s vr b (length v) k head.length_is) w.0, later.0.0.0),
+              ((element_tag s t vr (Known (length v)) b (order s vr v ++ o) head k, apart.0), reads_back vr v (is_no_sequence vr (spelled_no_sequence s t vr (length v) fo)) (value_bytes s vr v behind.0) (length_known s vr b (length v) k head.length_is) w.0, later.0.0.0),
               (apart.1, later.0.0.1),
             ),
             later.0.1,
@@ -245,7 +242,7 @@ group_can no_tree b p m h k w = (tt, subst Bytes h k)
 group_can (leaf t vr v rest) b p m (o, fo, head, more) k w =
     let behind = bytes_parts v o (bytes_of_head Little t vr (Known (length v)) b (v ++ o) head k) in
     let after = group_can rest o p m.1 more behind.1 w.1 in (
-      ((element_tag Little t vr (Known (length v)) b (v ++ o) head k, head.no_item), reads_back vr v (plain_vr vr (spelled_no_sequence Little t vr (length v) fo)) behind.0 (length_known Little vr b (length v) k head.length_is) w.0, after.0),
+      ((element_tag Little t vr (Known (length v)) b (v ++ o) head k, head.no_item), reads_back vr v (is_no_sequence vr (spelled_no_sequence Little t vr (length v) fo)) behind.0 (length_known Little vr b (length v) k head.length_is) w.0, after.0),
       after.1,
     )
 group_can (sequence t vr declared items rest) b p m h k w = absurd m

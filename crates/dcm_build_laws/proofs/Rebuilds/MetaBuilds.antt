@@ -4,6 +4,7 @@ use Rattle.std.specs.Prelude.{if◌then◌else◌, ◌==◌, slice_index, is_non
 use Rattle.std.proofs.lemmas.Bool.{le-ltb}
 use Rattle.std.proofs.lemmas.Bool.Decides.{nat_tests}
 use Rattle.std.proofs.lemmas.List.{append-nil, length-take-le}
+use Rattle.dcm_lemmas.proofs.Lists.{joined_alike}
 use Rattle.dcm_base.specs.declared.tag.Tag.{Tag}
 use Rattle.dcm_base.specs.declared.vr.Vr.{Vr}
 use Rattle.dcm_base.specs.declared.vr.Vr.TheVariants.{AE, UI}
@@ -109,9 +110,6 @@ one_leaf : (s : Syntax) (tag : Tag) (vr : Vr) (v : List ℕ) → unless_dropped 
 unfolding recode_set rebuilt
 one_leaf s tag vr v = sym (append-nil (unless_dropped tag (recoded_leaf s tag vr (value_shown vr v)))) ∙ recodes_same s (leaf tag vr v no_tree) ∙ append-nil (unless_dropped tag (recoded_leaf s tag vr v))
 
-both : {a b c d : List ℕ} → a ≡ b → c ≡ d → a ++ c ≡ b ++ d
-both p q = cc
-
 no_syntax_same : (x : Trees) → AreMeta x → recode_set Little (without_syntax (rebuilt x)) ≡ recode_set Little (without_syntax x)
 unfolding recode_set rebuilt AreMeta
 no_syntax_same no_tree h = refl
@@ -119,7 +117,7 @@ no_syntax_same (leaf tag vr v rest) h = by_tag (is_tag 2 0x10 tag) (no_syntax_sa
   where
     by_tag : (t : Bool) → recode_set Little (without_syntax (rebuilt rest)) ≡ recode_set Little (without_syntax rest) → recode_set Little (if t then without_syntax (rebuilt rest) else leaf tag vr (value_shown vr v) (without_syntax (rebuilt rest))) ≡ recode_set Little (if t then without_syntax rest else leaf tag vr v (without_syntax rest))
     by_tag true e = e
-    by_tag false e = both (one_leaf Little tag vr v) e
+    by_tag false e = joined_alike (one_leaf Little tag vr v) e
 no_syntax_same (sequence tag vr declared items rest) h = absurd h
 no_syntax_same (fragments tag vr values rest) h = absurd h
 
@@ -131,8 +129,8 @@ elements_same uid (leaf tag vr v rest) h = by_tag (is_tag 2 0x10 tag) (elements_
     by_tag : (t : Bool) → recode_set Little (with_syntax uid (rebuilt rest)) ≡ recode_set Little (with_syntax uid rest)
         → recode_set Little (if t then leaf tag UI uid (without_syntax (rebuilt rest)) else leaf tag vr (value_shown vr v) (with_syntax uid (rebuilt rest)))
         ≡ recode_set Little (if t then leaf tag UI uid (without_syntax rest) else leaf tag vr v (with_syntax uid rest))
-    by_tag true e = both refl (no_syntax_same rest h.1)
-    by_tag false e = both (one_leaf Little tag vr v) e
+    by_tag true e = joined_alike refl (no_syntax_same rest h.1)
+    by_tag false e = joined_alike (one_leaf Little tag vr v) e
 elements_same uid (sequence tag vr declared items rest) h = absurd h
 elements_same uid (fragments tag vr values rest) h = absurd h
 

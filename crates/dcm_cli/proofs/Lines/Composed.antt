@@ -1,13 +1,10 @@
 -- A line that is composed part by part.
-use Rattle.std.proofs.Common.{◌≡◌, ◌∙◌, ap, sym, ℕ, ◌+◌, ◌<◌, ◌≤◌, List, [], ◌∷◌, ◌++◌, length, take, get_or, Result, Ok, Err, arith}
+use Rattle.std.proofs.Common.{◌≡◌, ◌∙◌, ap, sym, ℕ, ◌+◌, ◌<◌, ◌≤◌, List, [], ◌∷◌, ◌++◌, length, take, get_or, Result, arith}
 use Rattle.std.specs.Prelude.{IsOk, OnOk, flat_map}
 use Rattle.std.proofs.lemmas.Grind.{flat_map-append}
 use Rattle.std.proofs.lemmas.List.{take_more, append-nil}
 use Rattle.std.proofs.lemmas.List.Folds.{length-flat_map-take}
-
-on_ok : {T E P : Type 0} (r : Result T E) → IsOk r → OnOk r P → P
-on_ok (Ok x) e p = p
-on_ok (Err x) e p = cc
+use Rattle.dcm_lemmas.proofs.Options.{on_ok}
 
 -- one part more
 pub part_more : {X T E : Type 0} (f : X → List ℕ) (xs : List X) (i room : ℕ) (d : X) (items new : List ℕ) (r : Result T E) → i < length xs → length (flat_map f xs) ≤ room

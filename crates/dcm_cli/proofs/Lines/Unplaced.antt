@@ -4,9 +4,10 @@ use Rattle.std.specs.Prelude.{Result, Ok, Err, is_err, ◌==◌, if◌then◌els
 use Rattle.std.specs.Io.KnownBytes.{append_known}
 use native.Mathlib.Numerals.{unary_clauses}
 use Rattle.std.proofs.lemmas.List.{append-nil}
+use Rattle.dcm_lemmas.proofs.Options.{known_twice}
 use Rattle.dcm_devices.specs.Device.{AppendsFront, Puts, Tells}
 use Rattle.dcm_base.specs.Tree.Front.{Front}
-use Rattle.dcm_devices.proofs.Writes.Puts.{append_known_twice, front_longer, puts_behind}
+use Rattle.dcm_devices.proofs.Writes.Puts.{front_longer, puts_behind}
 use Rattle.dcm_edits.specs.Edit.{Edit, found}
 use Rattle.dcm_cli.specs.Answer.{unplaced_lines, status_of_lines}
 use Rattle.dcm_cli.specs.Run.{unplaced_mask, mask_status}
@@ -156,7 +157,7 @@ module _ (held mid : Option (List ℕ)) (old now : Bool) (all front : List ℕ) 
 
     -- or goes out
     pub told_more : is_err r ≡ false → holds ≡ append_known held (front ++ line)
-    told_more e = put_whole mid holds line r e bytes ∙ ap (λ (known : Option (List ℕ)). append_known known line) grown ∙ append_known_twice held front line
+    told_more e = put_whole mid holds line r e bytes ∙ ap (λ (known : Option (List ℕ)). append_known known line) grown ∙ known_twice held front line
 
     pub told_fine : is_err r ≡ false → after ≡ old
     told_fine e = told_well now after r e tells ∙ fine

@@ -124,7 +124,7 @@ module _ (job : Job) (is_file : reads_file job ≡ true) (coding : Coding) (kept
       → Ends k.maker.bars k.maker.step k.maker.writes (start_of coding.syntax start) k.maker.first held (Some (0 ∷ [])) t holds (set_bytes b buffer ++ more) passed → IsDecided job (read ++ more) how ending
   set_decided held t holds passed ending same one (at_end over none fin is last e) = absurd (let no : 0 ∷ [] ≡ [] = over in cc)
   set_decided held t holds passed ending same one (at_fault stop over none fin is state e) = absurd (let no : 0 ∷ [] ≡ [] = over in cc)
-  set_decided held t holds passed ending same one (unread none is e) = decided_unread job (read ++ more) how ending _ (same (Unread _) tt is)
+  set_decided held t holds passed ending same one (unread none is state e) = decided_unread job (read ++ more) how ending _ (same (Unread _) tt is)
   set_decided held t holds passed ending same one (unwritten is e) = decided_output job (read ++ more) how ending (same Output tt is)
   set_decided held t holds passed ending same one (end_unwritten over none is e) = decided_output job (read ++ more) how ending (same Output tt is)
   set_decided held t holds passed ending same one (halted stop halt is state e) =
@@ -146,7 +146,7 @@ pub alone_decided : (job : Job) (s : Syntax) (k : AloneMaker job s) (more : List
     → Ends k.maker.bars k.maker.step k.maker.writes (start_of s 0) k.maker.first held (Some (0 ∷ [])) t holds more ending → IsDecided job more how ending
 alone_decided job s k more how held t holds ending (at_end over none fin is last e) = absurd (let no : 0 ∷ [] ≡ [] = over in cc)
 alone_decided job s k more how held t holds ending (at_fault stop over none fin is state e) = absurd (let no : 0 ∷ [] ≡ [] = over in cc)
-alone_decided job s k more how held t holds ending (unread none is e) = decided_unread job more how ending _ is
+alone_decided job s k more how held t holds ending (unread none is state e) = decided_unread job more how ending _ is
 alone_decided job s k more how held t holds ending (unwritten is e) = decided_output job more how ending is
 alone_decided job s k more how held t holds ending (end_unwritten over none is e) = decided_output job more how ending is
 alone_decided job s k more how held t holds ending (halted stop halt is state e) =

@@ -1,12 +1,14 @@
 -- What is read of an input, written without identity.
-use Rattle.std.proofs.Common.{◌≡◌, ◌∙◌, ap, sym, refl, subst, ℕ, ◌≤◌, List, ◌++◌, Option, Bool, true, false, arith}
+use Rattle.std.proofs.Common.{◌≡◌, ◌∙◌, ap, sym, refl, subst, ℕ, ◌≤◌, ◌+◌, ◌-◌, List, ◌++◌, length, take, Option, Bool, true, false, arith, length-append}
+use Rattle.std.proofs.lemmas.List.{length-take}
 use Rattle.std.specs.Prelude.{fold}
 use Rattle.dcm_base.specs.declared.syntax.Syntax.{Syntax}
 use Rattle.dcm_base.specs.declared.tag.Tag.{Tag}
+use Rattle.dcm_base.specs.Bytes.Spelling.{SpellsFront}
 use Rattle.dcm_base.specs.Conversion.Recode.{recode}
 use Rattle.dcm_base.specs.Reading.Bars.{identity_bar}
 use Rattle.dcm_base.specs.Reading.Reads.{INPUT_LIMIT, Reads, ended}
-use Rattle.dcm_base.specs.Reading.Stop.{complete}
+use Rattle.dcm_base.specs.Reading.Stop.{Stop, complete, refused}
 use Rattle.dcm_base.specs.Steps.Anew.{reached_anew}
 use Rattle.dcm_base.specs.Steps.Atoms.{Atom, Shows, front_atoms, is_closed}
 use Rattle.dcm_base.specs.Steps.Steps.{outputs}
@@ -15,15 +17,21 @@ use Rattle.dcm_base.specs.Tree.Tree.{Trees}
 use Rattle.dcm_sinks.specs.EncodeSink.{encode_start, encode_step, encode_writes}
 use Rattle.dcm_sinks.specs.Laws.{StaysShallow}
 use Rattle.dcm_sinks.proofs.Conversions.DataSets.{encode_steps}
-use Rattle.dcm_editor.proofs.ReadBack.EditReads.{Shown, shown_whole}
+use Rattle.dcm_editor.proofs.ReadBack.EditReads.{Shown, shown_so_far, shown_whole}
 use Rattle.dcm_editor.proofs.ReadBack.IdentityBar.{identity, identity_in_order}
 use Rattle.dcm_editor.proofs.ReadBack.RecodeAnew.{recode_anew}
 use Rattle.dcm_editor.proofs.Trees.DepthAtoms.{front_shallow, front_stays, anew_shallow}
 use Rattle.dcm_deid.specs.MadeNew.{made_new}
 use Rattle.dcm_deid.specs.declared.fate.Options.{Options}
-use Rattle.dcm_deid.specs.DeidentifySink.{State, begun, next, passed}
+use Rattle.dcm_deid.specs.declared.fate.Depth.TheVariants.{Outermost}
+use Rattle.dcm_deid.specs.DeidentifySink.{MOST_COUNTED, State, begun, next, passed}
+use Rattle.dcm_deid.specs.Deidentify.{Renaming}
+use Rattle.dcm_deid.specs.Emptied.{dates_emptied}
+use Rattle.dcm_deid.specs.Fate.{fate_as}
 use Rattle.dcm_deid.specs.Saying.{deidentified, read_whole}
 use Rattle.dcm_deid.proofs.Deidentified.{deidentify_steps}
+use Rattle.dcm_deid.proofs.DatesTold.{date_steps}
+use Rattle.dcm_deid.proofs.EmptiedBytes.{front_holds}
 use Rattle.dcm_deid.proofs.PixelsTold.{pixel_steps}
 use Rattle.dcm_deid.proofs.Shallow.{deidentified_shallow}
 use Rattle.dcm_cli.specs.Answer.{shows_identity}
@@ -63,10 +71,45 @@ read_is_whole s start bytes f le (reached, why, first, said, is) =
     is_whole f (front_atoms s f) (ap is_closed is ∙ closed_at_end reached) r.shows
 
 pub pixels_known : (options : Options) (key : List ℕ) (s : Syntax) (start : ℕ) (bytes : List ℕ) (f : Front) → start ≤ INPUT_LIMIT → Reads identity_bar s start bytes f complete
-    → (fold next (begun options key) (front_atoms s f)).place.may_show ≡ shows_identity options key f
+    → (fold next (begun options key) (front_atoms s f)).place.seen.may_show ≡ shows_identity options key f
 pixels_known options key s start bytes f le reads =
     let r = shown_whole identity identity_bar identity_in_order s start bytes f complete le reads in
     let w = read_is_whole s start bytes f le reads in
     let atoms : List Atom = front_atoms s f in
-    subst (λ (g : Front). (fold next (begun options key) atoms).place.may_show ≡ shows_identity options key g) (sym w.is)
+    subst (λ (g : Front). (fold next (begun options key) atoms).place.seen.may_show ≡ shows_identity options key g) (sym w.is)
     (pixel_steps options key w.reached w.set atoms r.shallow (subst (λ (g : Front). Shows g atoms) w.is r.shows))
+
+-- ---- how many dates were emptied
+
+-- whether the data set has ended has no influence
+emptied_ended : (stop : Stop) (options : Options) (new : Renaming) (f : Front) → dates_emptied options new (ended stop f) ≡ dates_emptied options new f
+unfolding dates_emptied
+emptied_ended complete options new (front whole o reached closed) = refl
+emptied_ended (refused fault offset) options new f = refl
+
+front_few : (options : Options) (new : Renaming) (s : Syntax) (f : Front) (bytes : List ℕ) → SpellsFront s f bytes → dates_emptied options new f ≤ length bytes
+unfolding dates_emptied
+front_few options new s f bytes spelled = front_holds (fate_as options) new Outermost s f bytes spelled
+
+-- there is room to count them
+few_dates : (options : Options) (new : Renaming) (s : Syntax) (start : ℕ) (bytes : List ℕ) (f : Front) (stop : Stop) → Reads identity_bar s start bytes f stop → dates_emptied options new f ≤ MOST_COUNTED
+few_dates options new s start bytes f stop (reached, why, first, said, is) =
+    let few = front_few options new s reached first.read first.spelled in
+    let size : length (take (INPUT_LIMIT - start) bytes) ≡ length first.read + length first.rest = ap length first.parts ∙ length-append first.read first.rest in
+    let most = length-take (INPUT_LIMIT - start) bytes in
+    let same : dates_emptied options new f ≡ dates_emptied options new reached = ap (dates_emptied options new) is ∙ emptied_ended stop options new reached in
+    omega (arith, few, size, most, same)
+
+pub dates_known : (options : Options) (key : List ℕ) (s : Syntax) (start : ℕ) (bytes : List ℕ) (f : Front) (stop : Stop) → start ≤ INPUT_LIMIT → Reads identity_bar s start bytes f stop
+    → (fold next (begun options key) (front_atoms s f)).place.seen.emptied ≡ dates_emptied options (made_new options key) f
+dates_known options key s start bytes f stop le reads =
+    let r = shown_whole identity identity_bar identity_in_order s start bytes f stop le reads in
+    date_steps options key f (front_atoms s f) r.shallow r.shows (few_dates options (made_new options key) s start bytes f stop reads)
+
+pub dates_so_far : (options : Options) (key : List ℕ) (s : Syntax) (start : ℕ) (bytes : List ℕ) (f : Front) (stop : Stop) → start ≤ INPUT_LIMIT → is_closed f ≡ false → Reads identity_bar s start bytes (ended stop f) stop
+    → (fold next (begun options key) (front_atoms s f)).place.seen.emptied ≡ dates_emptied options (made_new options key) (ended stop f)
+dates_so_far options key s start bytes f stop le open_end reads =
+    let r = shown_so_far identity identity_bar identity_in_order s start bytes f stop le open_end reads in
+    let same = emptied_ended stop options (made_new options key) f in
+    let few = few_dates options (made_new options key) s start bytes (ended stop f) stop reads in
+    date_steps options key f (front_atoms s f) r.shallow r.shows (subst (λ (n : ℕ). n ≤ MOST_COUNTED) same few) ∙ sym same

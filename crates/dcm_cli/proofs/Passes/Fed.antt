@@ -1,12 +1,12 @@
 -- Pieces that a machine is fed, one after another.
 use Rattle.std.proofs.Common.{◌≡◌, ◌∙◌, ap, sym, subst, ℕ, ◌≤◌, List, [], ◌++◌, length-append, Bool, true, false, Option, None, Some, arith, refl}
 use Rattle.std.specs.Prelude.{Result, Ok, Err, IsErrAnd, fold, is_some, ◌||◌}
+use Rattle.dcm_lemmas.proofs.Options.{known_nothing}
 use Rattle.dcm_base.specs.Steps.Atoms.{Atom}
 use Rattle.dcm_base.specs.Steps.Steps.{outputs, Goes}
 use Rattle.dcm_base.specs.Reading.Stop.{Stop}
 use Rattle.dcm_base.specs.Reading.Reads.{INPUT_LIMIT}
 use Rattle.std.specs.Io.KnownBytes.{append_known}
-use Rattle.dcm_devices.proofs.Writes.Puts.{append_known_none}
 use Rattle.dcm_base.proofs.Writes.Runs.{goes_on, goes_failed}
 use Rattle.dcm_head.specs.declared.head.Head.{Head}
 use Rattle.dcm_stream.specs.declared.token.Bar.{Bar}
@@ -93,7 +93,7 @@ module _ {S : Type 0} (bars : S → Head → Option Bar) (step : S → Atom → 
           record {
             goes = subst (λ (f : Bool). Goes (steps bars step) (steps_write bars step writes) (old.reading, s) held (new.reading, t) holds (xs ++ ys) (well f)) e
                 (goes_on (steps bars step) (steps_write bars step writes) (old.reading, s) held (new.reading, t) holds (new.reading, t) holds xs ys (well false) went.0 went.1
-                (sym still.0, sym (append_known_none holds) ∙ ap (append_known holds) (sym still.1)));
+                (sym still.0, sym (known_nothing holds) ∙ ap (append_known holds) (sym still.1)));
             answer_is = a.answer_is;
             going = tt;
             failed = a.failed;
@@ -119,7 +119,7 @@ module _ {S : Type 0} (bars : S → Head → Option Bar) (step : S → Atom → 
       by_failure (Some stop) false h f = absurd (cc)
       by_failure None false h f =
           record {
-            goes = subst (λ (failed : Bool). Goes (steps bars step) (steps_write bars step writes) (p.reading, s) held (p.reading, s) held [] (well failed)) f (refl, sym (append_known_none held));
+            goes = subst (λ (failed : Bool). Goes (steps bars step) (steps_write bars step writes) (p.reading, s) held (p.reading, s) held [] (well failed)) f (refl, sym (known_nothing held));
             answer_is = ap (answer None) f ∙ ap (λ (x : Option Stop). answer x p.failed) h;
             going = going;
             failed = subst (λ (failed : Bool). TellsFailed has_failed has_failed failed) f refl;

@@ -3,6 +3,7 @@ use Rattle.std.proofs.Common.{◌≡◌, ◌∙◌, ap, sym, subst, ℕ, ◌+◌
 use Rattle.std.specs.Prelude.{◌⊎◌, if◌then◌else◌}
 use Rattle.std.specs.Io.KnownBytes.{append_known}
 use Rattle.std.proofs.lemmas.List.{append-nil, drop-append-le}
+use Rattle.dcm_lemmas.proofs.Options.{known_nothing, known_twice}
 use Rattle.dcm_base.specs.declared.fault.Stop.{Stop as HaltStop}
 use Rattle.dcm_base.specs.declared.fault.Fault.TheVariants.{CannotChange}
 use Rattle.dcm_base.specs.declared.mode.Mode.{Mode}
@@ -20,8 +21,10 @@ use Rattle.dcm_base.specs.File.MetaReads.{Meta, PREFIX}
 use Rattle.dcm_base.specs.Conversion.NewMeta.{new_meta}
 use Rattle.dcm_base.specs.Conversion.Recode.{recode}
 use Rattle.dcm_base.specs.Reading.Reads.{INPUT_LIMIT, Reads}
-use Rattle.dcm_words.specs.Words.{Job, dump, dump_decoded, convert, build, modify, deidentify}
-use Rattle.dcm_devices.proofs.Writes.Puts.{append_known_twice, append_known_none, front_longer, puts_behind}
+use Rattle.dcm_words.specs.declared.job.Texts.{Texts}
+use Rattle.dcm_named.specs.Named.{named_set, named_front}
+use Rattle.dcm_words.specs.Words.{Job, dump, dump_decoded, dump_named, Named, convert, build, modify, deidentify}
+use Rattle.dcm_devices.proofs.Writes.Puts.{front_longer, puts_behind}
 use Rattle.dcm_base.specs.declared.dictionary.Dictionary.{Dictionary}
 use Rattle.dcm_head.specs.declared.meta_read.MetaEnd.{MetaEnd}
 use Rattle.dcm_head.specs.declared.meta_read.MetaEnd.TheVariants as meta_end
@@ -37,10 +40,10 @@ use Rattle.dcm_cli.specs.declared.ending.Verdict.TheVariants.{Done, PixelsMaySho
 use Rattle.dcm_cli.specs.declared.head.Beginning.{Beginning}
 use Rattle.dcm_cli.specs.InputCalls.{How, to_end, Allows}
 use Rattle.dcm_cli.specs.Pass.{Begins, FailsHead, Ends, WasRead, head_read, set_bytes, ending_of_head, with_unplaced, with_pixels}
-use Rattle.dcm_cli.specs.Answer.{job_dictionary, Source, file as of_file, unopened, going_on, job_bar, refuses_change, target_syntax, target_uid, file_output, output_of, Sure, FileReads, FileSure, not_opened as was_not_opened, not_changed, opened as was_opened, before_set, within_set}
+use Rattle.dcm_cli.specs.Answer.{asked_of, job_dictionary, Source, file as of_file, unopened, going_on, job_bar, refuses_change, target_syntax, target_uid, file_output, output_of, Sure, FileReads, FileSure, not_opened as was_not_opened, not_changed, opened as was_opened, before_set, within_set}
 use Rattle.dcm_cli.specs.Run.{Answered, Worked, answered, could_not_read, could_not_write, verdict_of_source, verdict_of_stop, verdict_at, done_verdict}
 use Rattle.dcm_cli.proofs.Passes.Readers.{nothing_follows}
-use Rattle.dcm_cli.proofs.Passes.Makers.{Maker, dumper, decoder, encoder}
+use Rattle.dcm_cli.proofs.Passes.Makers.{Maker, dumper, decoder, namer, encoder}
 use Rattle.dcm_cli.proofs.Passes.Sets.{SetMade, set_read, set_unread, set_unwritten, Last, set_made, all_read, TellsNothing, told_nothing}
 use Rattle.dcm_cli.proofs.Passes.MetaHeads.{Opened, opened, one_head, not_opened, ended_stays, finished_same, has_end, goes_on_still, ends_before}
 
@@ -49,6 +52,8 @@ use Rattle.dcm_cli.proofs.Passes.MetaHeads.{Opened, opened, one_head, not_opened
 abbrev pub reads_file : Job → Bool
 reads_file (dump d mode None) = true
 reads_file (dump_decoded d mode None) = true
+reads_file (dump_named texts d mode None named) = true
+reads_file (dump_named texts d mode (Some syntax) named) = false
 reads_file (dump d mode (Some syntax)) = false
 reads_file (dump_decoded d mode (Some syntax)) = false
 reads_file (convert d target) = true
@@ -59,6 +64,8 @@ reads_file (deidentify options reports key) = true
 pub file_answered : (job : Job) → reads_file job ≡ true → (bytes : List ℕ) (source : Source) → FileReads job bytes source → Answered job bytes (output_of job source) (verdict_of_source job source)
 file_answered (dump d mode None) is bytes source reads = record { source = source; reads = reads; out_is = refl; verdict_is = refl }
 file_answered (dump_decoded d mode None) is bytes source reads = record { source = source; reads = reads; out_is = refl; verdict_is = refl }
+file_answered (dump_named texts d mode None named) is bytes source reads = record { source = source; reads = reads; out_is = refl; verdict_is = refl }
+file_answered (dump_named texts d mode (Some syntax) named) is bytes source reads = cc
 file_answered (dump d mode (Some syntax)) is bytes source reads = cc
 file_answered (dump_decoded d mode (Some syntax)) is bytes source reads = cc
 file_answered (convert d target) is bytes source reads = record { source = source; reads = reads; out_is = refl; verdict_is = refl }
@@ -69,6 +76,8 @@ file_answered (deidentify options reports key) is bytes source reads = record { 
 file_sure : (job : Job) → reads_file job ≡ true → (p out : List ℕ) → FileSure job p out → Sure job p out
 file_sure (dump d mode None) is p out sure = sure
 file_sure (dump_decoded d mode None) is p out sure = sure
+file_sure (dump_named texts d mode None named) is p out sure = sure
+file_sure (dump_named texts d mode (Some syntax) named) is p out sure = cc
 file_sure (dump d mode (Some syntax)) is p out sure = cc
 file_sure (dump_decoded d mode (Some syntax)) is p out sure = cc
 file_sure (convert d target) is p out sure = sure
@@ -101,6 +110,15 @@ file_decoder d mode coding = record {
   output_is = λ m f. refl;
 }
 
+-- the dump of named elements
+abbrev pub file_namer : (texts : Texts) (d : Dictionary) (mode : Mode) (n : Named) (coding : Coding) → FileMaker (dump_named texts d mode None n) coding
+file_namer texts d mode n coding = record {
+  header = λ m. named_set (asked_of texts d mode n) EMPTY [] m.elements;
+  text = named_front (asked_of texts d mode n) EMPTY [];
+  maker = namer texts d mode n;
+  output_is = λ m f. refl;
+}
+
 -- the conversion
 abbrev pub file_encoder : (d : Dictionary) (target : Option Syntax) (coding : Coding) → FileMaker (convert d target) coding
 file_encoder d target coding = record {
@@ -130,24 +148,27 @@ finished_at r how read rest ok over e =
     ap (λ (bs : List ℕ). meta_finished (head_read (read ++ bs))) (nothing_follows how rest ok over) ∙ ap (λ (bs : List ℕ). meta_finished (head_read bs)) (append-nil read) ∙ sym e
 
 -- its head is at fault
-pub unopened_answered : (job : Job) → reads_file job ≡ true → (r : Reading) (read rest : List ℕ) (how : How) (stop : HaltStop) → Allows how rest → FailsHead r how read (heads.Refused stop) → Answered job (read ++ rest) [] (Refused stop)
-unopened_answered job is_file r read rest how stop ok f =
+pub unopened_read : (job : Job) (r : Reading) (read rest : List ℕ) (how : How) (stop : HaltStop) → Allows how rest → FailsHead r how read (heads.Refused stop) → FileReads job (read ++ rest) (unopened stop.fault stop.at)
+unopened_read job r read rest how stop ok f =
     let said = not_opened r (read ++ rest) stop (by_finish f.1) f.0 in
-    file_answered job is_file (read ++ rest) (unopened stop.fault stop.at) (was_not_opened stop.fault stop.at said refl)
+    was_not_opened stop.fault stop.at said refl
   where
     by_finish : (r ≡ head_read read) ⊎ ((how ≡ to_end) × (r ≡ meta_finished (head_read read))) → meta_finished (head_read (read ++ rest)) ≡ r
     by_finish (inl e) = finished_over r read rest (meta_end.Refused stop) f.0 e
     by_finish (inr x) = finished_at r how read rest ok x.0 x.1
+
+pub unopened_answered : (job : Job) → reads_file job ≡ true → (r : Reading) (read rest : List ℕ) (how : How) (stop : HaltStop) → Allows how rest → FailsHead r how read (heads.Refused stop) → Answered job (read ++ rest) [] (Refused stop)
+unopened_answered job is_file r read rest how stop ok f = file_answered job is_file (read ++ rest) (unopened stop.fault stop.at) (unopened_read job r read rest how stop ok f)
 
 pub file_unopened : (job : Job) → reads_file job ≡ true → (held : Option (List ℕ)) (r : Reading) (read rest : List ℕ) (how : How) (ending : HeadEnding) → Allows how rest
     → FailsHead r how read ending → Worked job (read ++ rest) (Some rest) held held (ending_of_head ending)
 file_unopened job is_file held r read rest how ending ok fails = by_ending ending fails
   where
     by_ending : (ending : HeadEnding) → FailsHead r how read ending → Worked job (read ++ rest) (Some rest) held held (ending_of_head ending)
-    by_ending (heads.Refused stop) f = answered [] (Refused stop) (unopened_answered job is_file r read rest how stop ok f) refl (sym (append_known_none held))
+    by_ending (heads.Refused stop) f = answered [] (Refused stop) (unopened_answered job is_file r read rest how stop ok f) refl (sym (known_nothing held))
     by_ending (heads.Unread count) f =
         let still = goes_on_still read (ap (λ (x : Reading). x.end) (sym f.0) ∙ f.1) in
-        could_not_read read rest [] refl refl (file_sure job is_file read [] (before_set still.0 still.1 still.2 refl)) (ap Unread f.2) (sym (append_known_none held))
+        could_not_read read rest [] refl refl (file_sure job is_file read [] (before_set still.0 still.1 still.2 refl)) (ap Unread f.2) (sym (known_nothing held))
 
 -- or cannot be changed
 pub unchanged_answered : (job : Job) → reads_file job ≡ true → (file : List ℕ) (r : Reading) (o : Opened (job_dictionary job) r file) → refuses_change job o.coding ≡ true
@@ -173,7 +194,7 @@ module _ (job : Job) (is_file : reads_file job ≡ true) (file : List ℕ) (afte
   -- the job cannot change it
   pub file_unchanged : refuses_change job o.coding ≡ true → Worked job file after held held (endings.Worked (Refused (record { fault = CannotChange; at = start })))
   file_unchanged refuses =
-      answered [] (Refused (record { fault = CannotChange; at = start })) (file_answered job is_file file (unopened CannotChange start) (not_changed o.m o.group o.coding o.reads refuses refl)) refl (sym (append_known_none held))
+      answered [] (Refused (record { fault = CannotChange; at = start })) (file_answered job is_file file (unopened CannotChange start) (not_changed o.m o.group o.coding o.reads refuses refl)) refl (sym (known_nothing held))
 
   module _ (kept : refuses_change job o.coding ≡ false) (k : FileMaker job o.coding) where
     abbrev SetReads : List ℕ → Front → Stop → Type 0
@@ -243,7 +264,7 @@ module _ (job : Job) (is_file : reads_file job ≡ true) (file : List ℕ) (afte
         behind : (f : Front) → holds ≡ append_known mid (k.text f) → holds ≡ append_known held (file_output job o.m o.coding f)
         behind f e =
             e ∙ ap (λ (known : Option (List ℕ)). append_known known (k.text f)) went
-            ∙ append_known_twice held (k.header o.m) (k.text f)
+            ∙ known_twice held (k.header o.m) (k.text f)
             ∙ ap (append_known held) (sym (k.output_is o.m f))
 
         -- the data set of what was read, and of the file
@@ -288,8 +309,8 @@ module _ (job : Job) (is_file : reads_file job ≡ true) (file : List ℕ) (afte
             → SetMade (job_bar job o.coding) k.text LastOf o.coding.syntax start (set_bytes b buffer ++ more) later mid t holds passed → Worked job file after held holds ending
         of_set rest later at whole split (set_read f stop reads last is e) =
             let there = subst (λ (bs : List ℕ). SetReads bs f stop) (file_set rest later whole split) reads in
-            answered (file_output job o.m o.coding f) (verdict_at job f stop) (read_as f stop there) (concludes.done f stop there last is) (behind f e)
-        of_set rest later at whole split (set_unread f stop reads undecided is e) = by_over rest later at whole split f stop reads undecided is e beginning.reading
+            answered (file_output job o.m o.coding f) (verdict_at job f stop) (read_as f stop there) (concludes.done f stop there (λ _. last) is) (behind f e)
+        of_set rest later at whole split (set_unread f stop reads undecided left is e) = by_over rest later at whole split f stop reads undecided is e beginning.reading
         of_set rest later at whole split (set_unwritten f stop reads is e) =
             could_not_write (file_output job o.m o.coding f) (verdict_at job f stop) (read_as f stop (subst (λ (bs : List ℕ). SetReads bs f stop) (file_set rest later whole split) reads)) (concludes.not_written is)
             (subst (AppendsFront held holds) (sym (k.output_is o.m f)) (puts_behind {T = Unit {0}} {E = Unit {0}} held mid holds (k.header o.m) (k.text f) (Err tt) went e))

@@ -2,12 +2,13 @@
 use Rattle.std.proofs.Common.{◌≡◌, ◌∙◌, ap, sym, subst, ℕ, ◌≤◌, List, ◌++◌, append_assoc, length, Bool, true, false, Option, None, Some, refl, Err, inl, inr, ◌⊎◌}
 use Rattle.std.specs.Prelude.{Result, Ok, fold, is_some, ◌||◌}
 use Rattle.std.specs.Io.KnownBytes.{append_known}
+use Rattle.dcm_lemmas.proofs.Options.{known_twice}
 use Rattle.dcm_base.specs.Lines.Build as build
 use Rattle.dcm_base.specs.declared.fault.LineStop.{LineStop}
 use Rattle.dcm_devices.specs.Device.{AppendsFront}
 use Rattle.dcm_base.specs.Steps.Steps.{outputs, Goes}
 use Rattle.dcm_words.specs.Words.{build as building}
-use Rattle.dcm_devices.proofs.Writes.Puts.{append_known_twice, front_longer, puts_behind}
+use Rattle.dcm_devices.proofs.Writes.Puts.{front_longer, puts_behind}
 use Rattle.dcm_base.proofs.Writes.Runs.{outputs-append, goes_on}
 use Rattle.dcm_stream.specs.Machine.{well, TellsFailed}
 use Rattle.dcm_build.specs.Halts.{BuildHalt}
@@ -152,7 +153,7 @@ module _ (limit : ℕ) (file read : List ℕ) (left held : Option (List ℕ)) (s
           verdict_is = ap verdict_of_line_stop (sym e ∙ ap (λ (z : BuildState). (finishes z).told) at ∙ (whole limit read).told ∙ ap (λ (bs : List ℕ). (build.built limit bs).told) (sym is));
         })
         refl
-        (grown ∙ ap (λ (known : Option (List ℕ)). append_known known (finish_writes s)) out ∙ append_known_twice held (written limit read) (finish_writes s) ∙ ap (append_known held) there)
+        (grown ∙ ap (λ (known : Option (List ℕ)). append_known known (finish_writes s)) out ∙ known_twice held (written limit read) (finish_writes s) ∙ ap (append_known held) there)
 
     pub built_ended : (ended : Result (Unit {0}) BuildHalt) → EndsLines s mid holds ended → Worked (building limit) file left held holds (ending_of ended)
     built_ended (Ok x) e = ends None e.0 e.1

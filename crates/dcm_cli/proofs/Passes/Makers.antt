@@ -1,5 +1,5 @@
 -- What jobs make of a data set, by sinks.
-use Rattle.std.proofs.Common.{◌≡◌, ◌⊎◌, ℕ, ◌≤◌, List, ◌++◌, false, Option, Some, None, refl}
+use Rattle.std.proofs.Common.{◌≡◌, ◌⊎◌, ℕ, ◌≤◌, List, [], ◌++◌, false, Option, Some, None, refl}
 use Rattle.std.specs.Prelude.{fold}
 use Rattle.dcm_base.specs.declared.fault.Fault.{Fault}
 use Rattle.dcm_base.specs.declared.mode.Mode.{Mode}
@@ -29,6 +29,16 @@ use Rattle.dcm_sinks.specs.DecodedDump.{decoded_front}
 use Rattle.dcm_sinks.specs.DecodedSink.{DecodedState, decoded_start, decoded_step, decoded_writes, bars_no_head}
 use Rattle.dcm_sinks.specs.InForce.{EMPTY}
 use Rattle.dcm_sinks.proofs.DecodedDumps.Reads.{reads_whole as decoded_reads_whole, reads_so_far as decoded_reads_so_far}
+use Rattle.dcm_sinks.specs.DumpSink.{as_before}
+use Rattle.dcm_sinks.specs.DecodedSink.{passed_over}
+use Rattle.dcm_words.specs.Words.{Named}
+use Rattle.dcm_words.specs.declared.job.Texts.{Texts}
+use Rattle.dcm_words.specs.declared.job.Texts.TheVariants.{Bytes, Characters}
+use Rattle.dcm_named.specs.Filter.{Place, place_start}
+use Rattle.dcm_named.specs.Named.{by_bytes, by_characters, named_front}
+use Rattle.dcm_named.specs.NamedSink.{named_step, named_writes, bars_nothing as named_bars_nothing}
+use Rattle.dcm_named.proofs.NamedReads.{reads_whole as named_reads_whole, reads_so_far as named_reads_so_far}
+use Rattle.dcm_cli.specs.Answer.{asked_of}
 use Rattle.dcm_sinks.specs.EncodeSink.{EncodeState, encode_bar, encode_start, encode_step, encode_writes}
 use Rattle.dcm_sinks.proofs.Dumps.Reads.{reads_whole, reads_so_far}
 use Rattle.dcm_sinks.proofs.Conversions.Reads.{encode_bars, reads_whole as encode_reads_whole, reads_so_far as encode_reads_so_far}
@@ -130,6 +140,37 @@ decoder d mode = record {
   whole = decoded_reads_whole d mode;
   so_far = decoded_reads_so_far d mode;
 }
+
+-- the dump of named elements
+abbrev pub named_by_bytes : (d : Dictionary) (mode : Mode) (n : Named) → Maker no_bar (named_front (asked_of Bytes d mode n) EMPTY [])
+named_by_bytes d mode n = record {
+  State = Place × DumpState;
+  bars = named_bars_nothing;
+  step = named_step dump_step as_before;
+  writes = named_writes dump_writes;
+  first = (place_start n.tags n.ways mode, dump_start d mode);
+  drives = drives_by named_bars_nothing (named_step dump_step as_before) (named_writes dump_writes) no_bar (place_start n.tags n.ways mode, dump_start d mode)
+      (bars_none named_bars_nothing (named_step dump_step as_before) (named_writes dump_writes) (place_start n.tags n.ways mode, dump_start d mode) (λ atoms head. refl));
+  whole = named_reads_whole by_bytes n.tags n.ways d mode;
+  so_far = named_reads_so_far by_bytes n.tags n.ways d mode;
+}
+
+abbrev pub named_by_characters : (d : Dictionary) (mode : Mode) (n : Named) → Maker no_bar (named_front (asked_of Characters d mode n) EMPTY [])
+named_by_characters d mode n = record {
+  State = Place × DecodedState;
+  bars = named_bars_nothing;
+  step = named_step decoded_step passed_over;
+  writes = named_writes decoded_writes;
+  first = (place_start n.tags n.ways mode, decoded_start d mode);
+  drives = drives_by named_bars_nothing (named_step decoded_step passed_over) (named_writes decoded_writes) no_bar (place_start n.tags n.ways mode, decoded_start d mode)
+      (bars_none named_bars_nothing (named_step decoded_step passed_over) (named_writes decoded_writes) (place_start n.tags n.ways mode, decoded_start d mode) (λ atoms head. refl));
+  whole = named_reads_whole by_characters n.tags n.ways d mode;
+  so_far = named_reads_so_far by_characters n.tags n.ways d mode;
+}
+
+abbrev pub namer : (texts : Texts) (d : Dictionary) (mode : Mode) (n : Named) → Maker no_bar (named_front (asked_of texts d mode n) EMPTY [])
+namer Bytes d mode n = named_by_bytes d mode n
+namer Characters d mode n = named_by_characters d mode n
 
 -- the conversion
 abbrev pub encoder : (target : Syntax) → Maker (target_bar target) (recode target)

@@ -2,13 +2,14 @@
 use Rattle.std.proofs.Common.{◌≡◌, ◌∙◌, ap, sym, subst, ℕ, ◌+◌, List, [], ◌++◌, append_assoc, length, length-append, arith, Bool, true, false, Option, None, Some, refl}
 use Rattle.std.specs.Prelude.{Result, Ok, Err, fold}
 use Rattle.std.specs.Io.KnownBytes.{append_known, prepend_known, IsAtEnd}
+use Rattle.dcm_lemmas.proofs.Options.{known_twice}
 use Rattle.dcm_base.specs.declared.fault.Stop.{Stop as HaltStop}
 use Rattle.dcm_base.specs.Steps.Atoms.{Atom}
 use Rattle.dcm_devices.specs.Device.{AppendsFront}
 use Rattle.dcm_base.specs.Steps.Steps.{outputs, Goes}
 use Rattle.dcm_base.specs.Reading.Stop.{Stop, complete, refused}
 use Rattle.std.proofs.lemmas.List.Sums.{fold-append}
-use Rattle.dcm_devices.proofs.Writes.Puts.{append_known_twice, puts_behind}
+use Rattle.dcm_devices.proofs.Writes.Puts.{puts_behind}
 use Rattle.dcm_base.proofs.Writes.Runs.{outputs-append}
 use Rattle.dcm_head.specs.declared.head.Head.{Head}
 use Rattle.dcm_stream.specs.declared.token.Bar.{Bar}
@@ -62,7 +63,7 @@ module _ {S : Type 0} (bars : S → Head → Option Bar) (step : S → Atom → 
       → Ends bars step writes old.reading s held left t holds read (Unread (next_offset old.reading + length read))
   ends_unread left fed =
       let w = went fed in
-      unread (ap (λ (q : Reading × S). q.0.halt) (sym w.0) ∙ going_none new fed.going) refl w.1
+      unread (ap (λ (q : Reading × S). q.0.halt) (sym w.0) ∙ going_none new fed.going) refl (ap (λ (q : Reading × S). q.1) w.0) w.1
 
   -- the machine halts
   pub ends_halted : (left : Option (List ℕ)) (h : Halt) → Fed bars step writes old s held had_failed new t holds has_failed read (Err h)
@@ -93,7 +94,7 @@ module _ {S : Type 0} (bars : S → Head → Option Bar) (step : S → Atom → 
       by_answer (Ok x) e =
           at_end over none (ap (λ (q : Reading × S). finish q.0) (sym w.0) ∙ e.0) refl
           (e.1 ∙ ap (λ (q : Reading × S). fold step q.1 (end_shows complete)) w.0)
-          (e.2 ∙ ap (λ (known : Option (List ℕ)). append_known known (outputs step writes t (end_shows complete))) w.1 ∙ append_known_twice held out (outputs step writes t (end_shows complete))
+          (e.2 ∙ ap (λ (known : Option (List ℕ)). append_known known (outputs step writes t (end_shows complete))) w.1 ∙ known_twice held out (outputs step writes t (end_shows complete))
           ∙ ap (λ (q : Reading × S). append_known held (out ++ outputs step writes q.1 (end_shows complete))) w.0)
       by_answer (Err (halt_refused stop)) e =
           at_fault stop over none (ap (λ (q : Reading × S). finish q.0) (sym w.0) ∙ e.0) refl (e.1 ∙ ap (λ (q : Reading × S). q.1) w.0) (e.2 ∙ w.1)
@@ -124,7 +125,7 @@ module _ {S : Type 0} (bars : S → Head → Option Bar) (step : S → Atom → 
       ∙ sym (outputs-append (steps bars step) (steps_write bars step writes) (old.reading, s) first more)
 
   out_is : (holds : Option (List ℕ)) → holds ≡ append_known mid_held more_out → holds ≡ append_known held (outputs (steps bars step) (steps_write bars step writes) (old.reading, s) (first ++ more))
-  out_is holds e = e ∙ ap (λ (known : Option (List ℕ)). append_known known more_out) gone.1 ∙ append_known_twice held first_out more_out ∙ ap (append_known held) outs
+  out_is holds e = e ∙ ap (λ (known : Option (List ℕ)). append_known known more_out) gone.1 ∙ known_twice held first_out more_out ∙ ap (append_known held) outs
 
   -- with what the end of the input shows
   abbrev last : (Reading → Stop) → Reading × S → List ℕ
@@ -146,14 +147,14 @@ module _ {S : Type 0} (bars : S → Head → Option Bar) (step : S → Atom → 
       let end = last (λ r. complete) (fold (steps bars step) (mid.reading, m) more) in
       at_end over (ap (λ (q : Reading × S). q.0.halt) same ∙ none) (ap (λ (q : Reading × S). finish q.0) same ∙ fin) is
       (last_is ∙ ap (λ (q : Reading × S). fold step q.1 (end_shows complete)) (sym same))
-      (e ∙ ap (λ (known : Option (List ℕ)). append_known known (more_out ++ end)) gone.1 ∙ append_known_twice held first_out (more_out ++ end) ∙ ap (append_known held) (all_is (λ r. complete)))
+      (e ∙ ap (λ (known : Option (List ℕ)). append_known known (more_out ++ end)) gone.1 ∙ known_twice held first_out (more_out ++ end) ∙ ap (append_known held) (all_is (λ r. complete)))
   ends_behind left u holds ending (at_fault stop over none fin is state e) =
       at_fault stop over (ap (λ (q : Reading × S). q.0.halt) same ∙ none) (ap (λ (q : Reading × S). finish q.0) same ∙ fin) is (state ∙ ap (λ (q : Reading × S). q.1) (sym same)) (out_is holds e)
   ends_behind left u holds ending (halted stop halt is state e) =
       halted stop (ap (λ (q : Reading × S). q.0.halt) same ∙ halt) is (state ∙ ap (λ (q : Reading × S). q.1) (sym same)) (out_is holds e)
-  ends_behind left u holds ending (unread none is e) =
+  ends_behind left u holds ending (unread none is state e) =
       let count : next_offset mid.reading + length more ≡ next_offset old.reading + length (first ++ more) = omega (arith, fed.place fed.going, length-append first more) in
-      unread (ap (λ (q : Reading × S). q.0.halt) same ∙ none) (is ∙ ap Unread count) (out_is holds e)
+      unread (ap (λ (q : Reading × S). q.0.halt) same ∙ none) (is ∙ ap Unread count) (state ∙ ap (λ (q : Reading × S). q.1) (sym same)) (out_is holds e)
   ends_behind left u holds ending (unwritten is e) =
       unwritten is (subst (AppendsFront held holds) outs (puts_behind {T = Unit {0}} {E = Unit {0}} held mid_held holds first_out more_out (Err tt) gone.1 e))
   ends_behind left u holds ending (end_unwritten over none is e) =

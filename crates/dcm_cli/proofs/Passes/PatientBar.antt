@@ -1,6 +1,8 @@
 -- The bar where a patient is looked for, by the atoms so far.
-use Rattle.std.proofs.Common.{◌≡◌, ◌∙◌, ap, refl, ℕ, zero, suc, ◌+◌, List, [], ◌∷◌, length, Option, Some, None, Bool, true, false, cond, arith}
+use Rattle.std.proofs.Common.{◌≡◌, ◌∙◌, ap, refl, ℕ, zero, suc, List, [], ◌∷◌, length, Option, Some, None, Bool, true, false, cond}
 use Rattle.std.specs.Prelude.{fold, if◌then◌else◌}
+use Rattle.dcm_editor.proofs.ReadBack.IdentityBar.{barred_alike, passed_above}
+use Rattle.dcm_lemmas.proofs.Numbers.{nothing_added}
 use Rattle.dcm_base.specs.declared.fault.Fault.{Fault}
 use Rattle.dcm_base.specs.declared.fault.Fault.TheVariants.{NotAscending, IdentityStays, NoPatientId}
 use Rattle.dcm_base.specs.declared.syntax.Syntax.{Syntax}
@@ -23,28 +25,14 @@ reached atoms = fold reached_after (None ∷ []) atoms
 abbrev pub patient : List Atom → HeadBar
 patient atoms tag vr declared = if is_above tag (innermost (reached atoms)) then patient_fault (one_less (length (reached atoms))) tag else Some NotAscending
 
--- two tests that bar tags alike, bar what else is barred alike
-barred_alike : (a b : Bool) (fault : Option Fault) → cond {A = Option Fault} a None (Some NotAscending) ≡ cond b None (Some NotAscending) → cond {A = Option Fault} a fault (Some NotAscending) ≡ cond b fault (Some NotAscending)
-barred_alike true true fault e = refl
-barred_alike true false fault e = absurd cc
-barred_alike false true fault e = absurd cc
-barred_alike false false fault e = refl
-
-never : (a b c : Bool) → is_early_bar (cond a (cond b (Some IdentityStays) (cond c (Some NoPatientId) None)) (Some NotAscending)) ≡ false
+pub never : (a b c : Bool) → is_early_bar (cond a (cond b (Some IdentityStays) (cond c (Some NoPatientId) None)) (Some NotAscending)) ≡ false
 never true true c = refl
 never true false true = refl
 never true false false = refl
 never false b c = refl
 
-passed_above : (a : Bool) (fault : Option Fault) → cond a fault (Some NotAscending) ≡ None → a ≡ true
-passed_above true fault e = refl
-passed_above false fault e = absurd cc
-
-nothing_more : (n : ℕ) → n + 0 ≡ n
-nothing_more n = omega arith
-
 items_are : (f : Front) (atoms : List Atom) → Shows f atoms → one_less (length (reached atoms)) ≡ items_open f
-items_are f atoms shows = ap one_less (front_items f atoms [] shows) ∙ nothing_more (items_open f)
+items_are f atoms shows = ap one_less (front_items f atoms [] shows) ∙ nothing_added (items_open f)
 
 pub patient_in_order : KeepsOrder patient patient_bar
 patient_in_order = record {

@@ -36,7 +36,7 @@ pub allows_any : (how : How) → how ≡ in_part → (rest : List ℕ) → Allow
 allows_any how is rest = subst (λ (h : How). Allows h rest) (sym is) tt
 
 -- a call that gave a byte
-how_given : (piece : List ℕ) → 0 < length piece → in_part ≡ how_of (Some piece)
+pub how_given : (piece : List ℕ) → 0 < length piece → in_part ≡ how_of (Some piece)
 how_given [] some = absurd (omega (arith, some))
 how_given (b ∷ bs) some = refl
 
@@ -104,7 +104,7 @@ for_another r U V old new given how from h = record { calls = by_calls h.calls; 
 
 -- ---- calls, and then others
 
-gave_append : {R : Type 0} (gets : R → Option (List ℕ) → R → Type 0) (old mid new : R) (xs ys : List ℕ) → Gave gets old xs mid → Gave gets mid ys new → Gave gets old (xs ++ ys) new
+pub gave_append : {R : Type 0} (gets : R → Option (List ℕ) → R → Type 0) (old mid new : R) (xs ys : List ℕ) → Gave gets old xs mid → Gave gets mid ys new → Gave gets old (xs ++ ys) new
 gave_append gets old mid new xs ys first (no_calls none same) =
     subst (λ (bs : List ℕ). Gave gets old bs new) (sym (ap (λ (zs : List ℕ). xs ++ zs) none ∙ append-nil xs)) (subst (λ r. Gave gets old xs r) (sym same) first)
 gave_append gets old mid new xs ys first (and_call before piece last calls call some is) =

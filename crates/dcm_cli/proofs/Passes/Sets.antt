@@ -18,17 +18,25 @@ use Rattle.dcm_cli.specs.declared.ending.Ending.TheVariants.{Worked, Unread, Out
 use Rattle.dcm_cli.specs.Pass.{Ends, at_end, at_fault, halted, unread, unwritten, end_unwritten}
 use Rattle.dcm_base.specs.declared.dictionary.Dictionary.{Dictionary}
 use Rattle.dcm_base.specs.declared.mode.Mode.{Mode}
-use Rattle.dcm_words.specs.Words.{Job, dump, dump_decoded, convert}
+use Rattle.dcm_words.specs.declared.job.Texts.{Texts}
+use Rattle.dcm_words.specs.Words.{Job, dump, dump_decoded, dump_named, Named, convert}
 use Rattle.dcm_cli.specs.declared.ending.Verdict.TheVariants.{Done}
 use Rattle.dcm_cli.specs.Answer.{going_on}
 use Rattle.dcm_cli.specs.Run.{verdict_of_stop, verdict_at, done_verdict, unplaced_mask}
 use Rattle.dcm_cli.proofs.Passes.Makers.{Maker, made, made_output, last_output, more_made, ends_as, refuses_as, waits_as, made_behind}
 
--- of a data set from start on, of which this was read: all of its text was written, and where nothing was at fault the sink has gone over all of it; or
--- what is sure of a beginning, or a beginning of the text
+-- where a data set may go on, the sink has gone over all that was read of it
+pub record SoFar {S : Type 0} (Last : S → Front → Type 0) (t : S) (f : Front) (stop : Stop) : Type 0 where
+  pub read : Front
+  pub not_closed : is_closed read ≡ false
+  pub is : f ≡ ended stop read
+  pub last : Last t read
+
+-- of a data set from start on, of which this was read: all of its text was written, and the sink has gone over all of it; or what is sure of a
+-- beginning, or a beginning of the text
 pub data SetMade {S : Type 0} (bar : Bar) (text : Front → List ℕ) (Last : S → Front → Type 0) (s : Syntax) (start : ℕ) (read rest : List ℕ) (held : Option (List ℕ)) (t : S) (holds : Option (List ℕ)) (ending : Ending) : Type 0 where
-  set_read : (f : Front) (stop : Stop) → Reads bar s start (read ++ rest) f stop → (stop ≡ complete → Last t f) → ending ≡ Worked (verdict_of_stop stop) → holds ≡ append_known held (text f) → SetMade bar text Last s start read rest held t holds ending
-  set_unread : (f : Front) (stop : Stop) → Reads bar s start read f stop → is_undecided (Some stop) ≡ true → ending ≡ Unread (start + length read)
+  set_read : (f : Front) (stop : Stop) → Reads bar s start (read ++ rest) f stop → Last t f → ending ≡ Worked (verdict_of_stop stop) → holds ≡ append_known held (text f) → SetMade bar text Last s start read rest held t holds ending
+  set_unread : (f : Front) (stop : Stop) → Reads bar s start read f stop → is_undecided (Some stop) ≡ true → SoFar Last t f stop → ending ≡ Unread (start + length read)
       → holds ≡ append_known held (text (going_on f)) → SetMade bar text Last s start read rest held t holds ending
   set_unwritten : (f : Front) (stop : Stop) → Reads bar s start (read ++ rest) f stop → ending ≡ Output → AppendsFront held holds (text f) → SetMade bar text Last s start read rest held t holds ending
 
@@ -48,6 +56,10 @@ dump_tells_nothing d mode bare set = refl
 pub decoded_tells_nothing : (d : Dictionary) (mode : Mode) (bare : Option Syntax) → TellsNothing (dump_decoded d mode bare)
 unfolding unplaced_mask
 decoded_tells_nothing d mode bare set = refl
+
+pub named_tells_nothing : (texts : Texts) (d : Dictionary) (mode : Mode) (bare : Option Syntax) (n : Named) → TellsNothing (dump_named texts d mode bare n)
+unfolding unplaced_mask
+named_tells_nothing texts d mode bare n set = refl
 
 pub convert_tells_nothing : (d : Dictionary) (target : Option Syntax) → TellsNothing (convert d target)
 unfolding unplaced_mask
@@ -74,9 +86,9 @@ module _ {bar : Bar} {text : Front → List ℕ} (m : Maker bar text) (s : Synta
       (e.f, finish (made m s start bytes).0, e.reads, refl, e.output ∙ m.whole s start bytes e.f (finish (made m s start bytes).0) le e.reads)
 
   -- and the state
-  last_state : (bytes : List ℕ) (t : m.State) → finish (made m s start bytes).0 ≡ complete → t ≡ fold m.step (made m s start bytes).1 (end_shows complete) → Last t (all_read bytes).0
+  last_state : (bytes : List ℕ) (t : m.State) (stop : Stop) → finish (made m s start bytes).0 ≡ stop → t ≡ fold m.step (made m s start bytes).1 (end_shows stop) → Last t (all_read bytes).0
   unfolding all_read
-  last_state bytes t fin is =
+  last_state bytes t stop fin is =
       let e = ends_as m s start bytes le in
       is ∙ ap (λ (x : Stop). fold m.step (made m s start bytes).1 (end_shows x)) (sym fin) ∙ e.state
 
@@ -105,18 +117,18 @@ module _ {bar : Bar} {text : Front → List ℕ} (m : Maker bar text) (s : Synta
     pub set_made : (left holds : Option (List ℕ)) (read rest : List ℕ) (ending : Ending) → left ≡ Some rest → Ends m.bars m.step m.writes (start_of s start) m.first held left t holds read ending
         → SetMade bar text Last s start read rest held t holds ending
     set_made left holds read rest ending some (at_end over none fin is last e) =
-        set_read (all_read read).0 complete (ended_there left read rest complete some over fin) (λ _. last_state read t fin last) is (e ∙ ap (append_known held) (last_there read complete fin))
+        set_read (all_read read).0 complete (ended_there left read rest complete some over fin) (last_state read t complete fin last) is (e ∙ ap (append_known held) (last_there read complete fin))
     set_made left holds read rest ending some (at_fault stop over none fin is state e) =
-        set_read (all_read read).0 (refused stop.fault stop.at) (ended_there left read rest (refused stop.fault stop.at) some over fin) (λ never. absurd (cc)) is
+        set_read (all_read read).0 (refused stop.fault stop.at) (ended_there left read rest (refused stop.fault stop.at) some over fin) (last_state read t (refused stop.fault stop.at) fin state) is
         (e ∙ ap (append_known held) (sym (append-nil (made_output m s start read)) ∙ last_there read (refused stop.fault stop.at) fin))
     set_made left holds read rest ending some (halted stop halt is state e) =
         let r = refuses_as m s start read le stop.fault stop.at halt in
         let reads = r.reads rest in
-        set_read r.f (refused stop.fault stop.at) reads (λ never. absurd (cc)) is (e ∙ ap (append_known held) (r.output ∙ m.whole s start (read ++ rest) r.f (refused stop.fault stop.at) le reads))
-    set_made left holds read rest ending some (unread none is e) =
+        set_read r.f (refused stop.fault stop.at) reads (state ∙ r.state) is (e ∙ ap (append_known held) (r.output ∙ m.whole s start (read ++ rest) r.f (refused stop.fault stop.at) le reads))
+    set_made left holds read rest ending some (unread none is state e) =
         let w = waits_as m s start read le none in
         let stop = finish (made m s start read).0 in
-        set_unread (ended stop w.f) stop w.reads w.undecided (is ∙ ap (λ (n : ℕ). Unread (n + length read)) (starts_at start))
+        set_unread (ended stop w.f) stop w.reads w.undecided (record { read = w.f; not_closed = w.not_closed; is = refl; last = state ∙ w.state }) (is ∙ ap (λ (n : ℕ). Unread (n + length read)) (starts_at start))
         (e ∙ ap (append_known held) (w.output ∙ m.so_far s start read w.f stop le w.not_closed w.reads ∙ ap text (sym (going_back stop w.f w.not_closed))))
       where
         starts_at : (n : ℕ) → next_offset (start_of s n) ≡ n

@@ -68,7 +68,7 @@ module _ (job : Job) (given rest : List ℕ) (how : How) (ok : Allows how rest) 
             tried line_size line_now told tells untold_before untold line_filled b.lines lines small ∙ ap (λ (x : Answer). told ++ x.lines) same;
         status_is = status_was ∙ ap (λ (x : Answer). x.status) same;
       }
-  left_answered (not_read out unread sure holds lines status_was) a answers enough = absurd (cc)
+  left_answered (not_read out remarks unread sure told holds lines status_was) a answers enough = absurd (cc)
   left_answered (not_written each read failed lines status_was) a answers enough =
       let b = each rest ok in
       let same : b.0 ≡ a = one_answer job (given ++ rest) b.0 a b.1 answers in
@@ -77,7 +77,7 @@ module _ (job : Job) (given rest : List ℕ) (how : How) (ok : Allows how rest) 
   left_answered (not_flushed b all read failed none holds lines status_was) a answers enough = absurd (cc)
 
 -- as many bytes as were put
-taken : (m : MemOut) → length (written m) ≡ m.at
+pub taken : (m : MemOut) → length (written m) ≡ m.at
 taken m = length-take-le m.at m.bytes.items (subst (λ (n : ℕ). m.at ≤ n) m.bytes.ok.0 m.within)
 
 filled : (m : MemOut) → m.failed ≡ true → length (written m) ≡ size m

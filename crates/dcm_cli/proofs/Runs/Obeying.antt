@@ -1,15 +1,16 @@
 -- What a program did, by what its parts did.
-use Rattle.std.proofs.Common.{Global, ◌≡◌, ◌≢◌, ◌⊎◌, inl, inr, ap, sym, subst, refl, ◌==◌, ℕ, List, [], Bool, true, false, Option, Some, None, Result, Ok, Err, arith}
-use Rattle.std.specs.Io.KnownBytes.{append_known}
+use Rattle.dcm_words.specs.Plans.{named_as}
+use Rattle.dcm_cli.proofs.Passes.NamedJobs.{of_named}
+use Rattle.std.proofs.Common.{Global, ◌≡◌, ◌≢◌, ◌⊎◌, inl, inr, sym, subst, refl, ◌==◌, ℕ, List, [], Bool, true, false, Option, None, Result, Ok, Err, arith}
 use Rattle.std.specs.Result.{is_err}
 use Rattle.std.specs.declared.io.Error.{Error}
 use Rattle.std.proofs.lemmas.Bool.Decides.{nat_tests}
-use Rattle.std.proofs.lemmas.List.{append-nil}
+use Rattle.dcm_lemmas.proofs.Options.{known_nothing}
 use Rattle.dcm_words.specs.declared.job.Deidentify.{Deidentify}
 use Rattle.dcm_words.specs.declared.job.Job.{Job as AnyJob}
 use Rattle.dcm_words.specs.declared.job.Job.TheVariants as jobs
 use Rattle.dcm_words.specs.declared.usage.Usage.{Usage}
-use Rattle.dcm_words.specs.declared.usage.Usage.TheVariants.{AtWord, Whole, InEdit, Memory}
+use Rattle.dcm_words.specs.declared.usage.Usage.TheVariants.{AtWord, Whole, InEdit, InElement, TooManyElements, Memory}
 use Rattle.dcm_base.specs.declared.dictionary.Dictionary.{Dictionary}
 use Rattle.dcm_base.specs.declared.mode.Mode.{Mode}
 use Rattle.dcm_base.specs.declared.syntax.Syntax.{Syntax}
@@ -44,17 +45,15 @@ module _ {S I O : Type 0} (may : MayDo S I O) (r : Reader I) (w : Writer O) (wor
   refuse (AtWord fault n) gives gives_all line status_is same = refused (AtWord fault n) no_text gives line status_is same
   refuse (Whole fault) gives gives_all line status_is same = refused (Whole fault) no_text gives line status_is same
   refuse (InEdit fault n) gives gives_all line status_is same = refused (InEdit fault n) no_text gives line status_is same
+  refuse (InElement fault n) gives gives_all line status_is same = refused (InElement fault n) no_text gives line status_is same
+  refuse TooManyElements gives gives_all line status_is same = refused TooManyElements no_text gives line status_is same
   refuse Memory gives gives_all line status_is same = memory (takes_memory words) refl gives_all line status_is same
 
 -- ---- outputs that have their name only once they are whole
 
-pub append_nothing : (o : Option (List ℕ)) → append_known o [] ≡ o
-append_nothing None = refl
-append_nothing (Some bytes) = ap Some (append-nil bytes)
-
 -- where no call was made, nothing was reported
 pub nothing_told : {E : Type 0} (w : Writer E) (errors : E) → Reports (change_of w errors errors) []
-nothing_told w errors = inl (sym (append_nothing (w.contents errors)), refl)
+nothing_told w errors = inl (sym (known_nothing (w.contents errors)), refl)
 
 is_done : (n : ℕ) → n ≡ 0 → (n == 0) ≡ true
 is_done n e = grind (arith, nat_tests, e)
@@ -83,7 +82,8 @@ dumped_job may r w p e old status new Characters d mode bare works = works
 -- what is done of a plan whose job is another one
 pub other_job : {A S I O : Type 0} (may : MayDo S I O) (r : Reader I) (w : Writer O) (p : Plan) (e : Change) (old : S) (status : ℕ) (new : S) (j : AnyJob A) → ((d : Deidentify) → j ≡ jobs.Deidentify d → ⊥)
     → Works may r w p e old status new → WorksAs (job_of j) may r w p e old status new
-other_job may r w p e old status new (jobs.Dump d) other works = dumped_job may r w p e old status new d.texts d.dictionary d.mode d.bare works
+other_job may r w p e old status new (jobs.Dump d) other works =
+    of_named (λ (j : Job). WorksAs j may r w p e old status new) (named_as d.named) d.texts d.dictionary d.mode d.bare (dumped_job may r w p e old status new d.texts d.dictionary d.mode d.bare works) works
 other_job may r w p e old status new (jobs.Convert d) other works = works
 other_job may r w p e old status new (jobs.Build d) other works = works
 other_job may r w p e old status new (jobs.Modify d) other works = works

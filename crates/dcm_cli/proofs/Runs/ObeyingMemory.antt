@@ -10,14 +10,14 @@ use Rattle.dcm_files.specs.declared.opened.Opened.{Opened}
 use Rattle.dcm_files.specs.declared.opened.Unopened.{Unopened}
 use Rattle.dcm_files.specs.declared.opened.Unopened.TheVariants.{Input, Output, Same}
 use Rattle.dcm_files.specs.Devices as devices
-use Rattle.dcm_files.specs.Devices.{OpensDevices, standard}
+use Rattle.dcm_files.specs.Devices.{OpensDevices, OpensOutput, standard}
 use Rattle.dcm_files.specs.Memory.{may_do}
 use Rattle.dcm_deid.specs.declared.fate.Options.{Options}
 use Rattle.dcm_words.specs.declared.topic.Topic.{Topic}
 use Rattle.dcm_words.specs.Topics.{asked, text}
 use Rattle.dcm_words.specs.declared.usage.Usage.{Usage}
 use Rattle.dcm_words.specs.declared.usage.Usage.TheVariants.{Memory}
-use Rattle.dcm_words.specs.Words.{Job, dump, dump_decoded, convert, build, modify, deidentify, Plan, meant, with_days}
+use Rattle.dcm_words.specs.Words.{Job, dump, dump_decoded, dump_named, convert, build, modify, deidentify, Plan, meant, with_days}
 use Rattle.dcm_cli.specs.declared.days.NoDays.TheVariants as no_days
 use Rattle.dcm_cli.specs.declared.first.FirstEnd.{FirstEnd}
 use Rattle.dcm_cli.specs.declared.first.FirstEnd.TheVariants as ends
@@ -28,64 +28,33 @@ use Rattle.dcm_cli.specs.Answer.{Answer, Answers}
 use Rattle.dcm_cli.specs.Change.{Change}
 use Rattle.dcm_cli.specs.ErrorLines.{Reports, usage_line, usage_status}
 use Rattle.dcm_cli.specs.InMemory as spec
-use Rattle.dcm_cli.specs.InMemory.{Outcome, bytes_at, is_writable, number_at, is_one_file, shown, not_opened, same_file, answered, key_of, unwritten, not_begun, without_key, without_days, ByDays, DaysCome, FirstComes, ended, JobComes, WholeComes, KeyComes, DeidentifyComes, PlanComesAs, ComesBy, Comes, HasRoom, Took, IsWritten, LeavesAnswer}
+use Rattle.dcm_cli.specs.InMemory.{Outcome, bytes_at, number_at, unopened, shown, not_opened, answered, key_of, unwritten, not_begun, without_key, without_days, ByDays, DaysCome, FirstComes, ended, JobComes, WholeComes, KeyComes, DeidentifyComes, PlanComesAs, ComesBy, Comes, HasRoom, Took, IsWritten, LeavesAnswer}
 use Rattle.dcm_cli.specs.Program as program
 use Rattle.dcm_cli.specs.Program.{RunsOver, Works, WorksAs, Shows, Obeys, unopened_line, unopened_status}
 use Rattle.dcm_cli.proofs.Runs.InMemory.{memory_reader, memory_writer, memory_change, ran_left, text_left}
 use Rattle.dcm_cli.proofs.Runs.LeftMemory.{room_there, room_fits, LeftOf, leave_of}
 use Rattle.dcm_cli.proofs.Runs.OneAnswer.{one_answer, some_answer}
-use Rattle.dcm_cli.proofs.Runs.OpenedMemory.{no_both, made, input_opened, output_opened, clash_at, clashes, clashes_not}
+use Rattle.dcm_cli.proofs.Runs.OpenedMemory.{input_opened, output_made, room_given, no_room, NotOpened, by_input, by_output, DevicesAre}
 use Rattle.dcm_cli.proofs.Runs.WholeMemory.{deidentified_left}
 
 -- ---- both devices
 
--- why they were not opened, and the output that was closed then
-data NotOpened (bytes : Option (List ℕ)) (can_write one : Bool) (room before : Option MemOut) (u : Unopened) (after : Option MemOut) : Type 0 where
-  by_input : bytes ≡ None → u ≡ Input → after ≡ before → NotOpened bytes can_write one room before u after
-  by_output : (bs : List ℕ) → bytes ≡ Some bs → (can_write ≡ false) ⊎ (room ≡ None) → u ≡ Output → after ≡ before → NotOpened bytes can_write one room before u after
-  by_both : (bs : List ℕ) (m : MemOut) → bytes ≡ Some bs → can_write ≡ true → one ≡ true → room ≡ Some m → u ≡ Same → after ≡ Some m → NotOpened bytes can_write one room before u after
+module _ (s : MemSystem) (p : Plan) where
+  abbrev Devices : MemSystem → Result (Opened MemIn × Opened Measured) Unopened → Type 0
+  Devices after r = DevicesAre (bytes_at s p.input) (unopened s p) s.room s.written r after.written
 
-record BothOpened (bytes : Option (List ℕ)) (can_write one : Bool) (room : Option MemOut) (i : Opened MemIn) (o : Opened Measured) : Type 0 where
-  bytes_are : bytes ≡ Some i.device.rest.now
-  can : can_write ≡ true
-  apart : one ≡ false
-  room_is : room ≡ Some o.device.out
-
-abbrev DevicesAre : Option (List ℕ) → (can_write one : Bool) → (room before : Option MemOut) → Result (Opened MemIn × Opened Measured) Unopened → (after : Option MemOut) → Type 0
-DevicesAre bytes can_write one room before (Ok x) after = BothOpened bytes can_write one room x.0 x.1
-DevicesAre bytes can_write one room before (Err u) after = NotOpened bytes can_write one room before u after
-
-module _ (s : MemSystem) (input output : List ℕ) where
-  abbrev one : Bool
-  one = is_one_file (number_at s input) (number_at s output)
-
-  devices_are : (r : Result (Opened MemIn × Opened Measured) Unopened) (after : MemSystem) → OpensDevices may_do input output s r after
-      → DevicesAre (bytes_at s input) (is_writable output) one s.room s.written r after.written
+  devices_are : (r : Result (Opened MemIn × Opened Measured) Unopened) (after : MemSystem) → OpensDevices may_do p.input p.output p.overwrites s r after → Devices after r
   devices_are r after (devices.no_input x u opens cause are) =
-      let i = input_opened s input (Err x) after opens in
-      subst (λ (r : Result (Opened MemIn × Opened Measured) Unopened). DevicesAre (bytes_at s input) (is_writable output) one s.room s.written r after.written) (sym are)
-      (by_input i.0.0 (cause.other i.0.1) (ap (λ (z : MemSystem). z.written) i.1))
-  devices_are r after (devices.no_output d x u had tried opens creates released cause are) =
-      let i = input_opened s input (Ok d) had opens in
-      let o = output_opened s output (Err x) had tried i.1 creates in
-      subst (λ (r : Result (Opened MemIn × Opened Measured) Unopened). DevicesAre (bytes_at s input) (is_writable output) one s.room s.written r after.written) (sym are)
-      (by_output d.device.rest.now i.0.0 o.0.0 (cause.other o.0.1) (ap (λ (z : MemSystem). z.written) released ∙ o.1))
-  devices_are r after (devices.clashed d f cause had both closed opens creates was closes released are) =
-      let i = input_opened s input (Ok d) had opens in
-      let o = output_opened s output (Ok f) had both i.1 creates in
-      let c = clashes one cause (sym (clash_at (number_at s input) (number_at s output) d.kind f.kind i.0.1 o.0.2) ∙ was) in
-      subst (λ (r : Result (Opened MemIn × Opened Measured) Unopened). DevicesAre (bytes_at s input) (is_writable output) one s.room s.written r after.written) (sym are)
-      (by_both d.device.rest.now f.device.out i.0.0 o.0.0 c.0 o.0.1 c.1 (ap (λ (z : MemSystem). z.written) (released ∙ closes)))
-  devices_are r after (devices.both d f had opens creates apart are) =
-      let i = input_opened s input (Ok d) had opens in
-      let o = output_opened s output (Ok f) had after i.1 creates in
-      subst (λ (r : Result (Opened MemIn × Opened Measured) Unopened). DevicesAre (bytes_at s input) (is_writable output) one s.room s.written r after.written) (sym are)
-      (record {
-        bytes_are = i.0.0;
-        can = o.0.0;
-        apart = clashes_not one (sym (clash_at (number_at s input) (number_at s output) d.kind f.kind i.0.1 o.0.2) ∙ apart);
-        room_is = o.0.1;
-      })
+      let i = input_opened s p.input (Err x) after opens in
+      subst (Devices after) (sym are) (by_input i.0.0 (cause.other i.0.1) (ap (λ (z : MemSystem). z.written) i.1))
+  devices_are r after (devices.no_output d u had tried opens out released are) =
+      let i = input_opened s p.input (Ok d) had opens in
+      let o = output_made s p.output p.overwrites (number_at s p.input) d.kind i.0.1 (Err u) tried (subst (λ (z : MemSystem). OpensOutput may_do p.output p.overwrites d.kind z (Err u) tried) i.1 out) in
+      subst (Devices after) (sym are) (by_output d.device.rest.now i.0.0 o.0 (ap (λ (z : MemSystem). z.written) released ∙ o.1))
+  devices_are r after (devices.both d f had opens out are) =
+      let i = input_opened s p.input (Ok d) had opens in
+      let o = output_made s p.output p.overwrites (number_at s p.input) d.kind i.0.1 (Ok f) after (subst (λ (z : MemSystem). OpensOutput may_do p.output p.overwrites d.kind z (Ok f) after) i.1 out) in
+      subst (Devices after) (sym are) (record { bytes_are = i.0.0; can_is = o.0.0; room_is = o.0.1 })
 
 -- ---- what is left
 
@@ -103,77 +72,59 @@ module _ (s new : MemSystem) (errors new_errors : MemOut) (status : ℕ) where
   -- a job was run
   run_left : (p : Plan) (i : Opened MemIn) (d : Opened Measured) (had : MemSystem) (a : Answer) → s.room ≡ Some d.device.out → (d.device.out.failed ≡ false) × (length a.output ≤ room_of d.device.out)
       → Answers p.job i.device.rest.now a → RunsOver may_do memory_reader memory_writer p.job e i.device d.device had status new → Left (answered a)
-  run_left p i d had a room fits answers runs =
-      let l = ran_left p.job i.device d.device runs.input runs.output errors new_errors status runs.run fits.0 a answers fits.1 in
+  run_left p i d had a room fits answers (program.closed_with_loss input output ending x f back told was) = absurd (let no = back.closed.0 in cc)
+  run_left p i d had a room fits answers (program.closed_well input output run back) =
+      let l = ran_left p.job i.device d.device input output errors new_errors status run fits.0 a answers fits.1 in
       record {
         output_is = record {
           before = d.device.out;
-          after = runs.output.out;
+          after = output.out;
           room_is = room;
-          output_is = ap (λ (z : MemSystem). z.written) (runs.back.released ∙ runs.back.closed);
+          output_is = ap (λ (z : MemSystem). z.written) (back.released ∙ back.closed.1);
           bytes_are = l.output;
         };
         lines_are = λ room. l.lines room;
         status_is = l.status_is;
       }
 
-  module _ (p : Plan) (o : Outcome) (comes : JobComes (bytes_at s p.input) (is_writable p.output) (is_one_file (number_at s p.input) (number_at s p.output)) p.job o) (room : HasRoom o.output s.room) where
-    abbrev can_write : Bool
-    can_write = is_writable p.output
-
-    abbrev one_file : Bool
-    one_file = is_one_file (number_at s p.input) (number_at s p.output)
-
+  module _ (p : Plan) (o : Outcome) (comes : JobComes (bytes_at s p.input) (unopened s p) p.job o) (room : HasRoom o.output s.room) where
     -- the outcome, by what is known of the devices
-    comes_at : (bytes : Option (List ℕ)) (can is_one : Bool) → bytes_at s p.input ≡ bytes → can_write ≡ can → one_file ≡ is_one → JobComes bytes can is_one p.job o
-    comes_at bytes can is_one a b c =
-        subst (λ (x : Option (List ℕ)). JobComes x can is_one p.job o) a
-        (subst (λ (x : Bool). JobComes (bytes_at s p.input) x is_one p.job o) b
-        (subst (λ (x : Bool). JobComes (bytes_at s p.input) can_write x p.job o) c comes))
+    comes_at : (bytes : Option (List ℕ)) (because : Option Unopened) → bytes_at s p.input ≡ bytes → unopened s p ≡ because → JobComes bytes because p.job o
+    comes_at bytes because a b =
+        subst (λ (x : Option (List ℕ)). JobComes x because p.job o) a
+        (subst (λ (x : Option Unopened). JobComes (bytes_at s p.input) x p.job o) b comes)
 
     left_as : (q : Outcome) → o ≡ q → Left q → Left o
     left_as q same l = subst Left (sym same) l
 
     -- an output that can be written is written in the room
-    some_room : (bs : List ℕ) (is_one : Bool) → JobComes (Some bs) true is_one p.job o → s.room ≡ None → ⊥
-    some_room bs true c none = room_there [] s.room (subst (λ (q : Outcome). HasRoom q.output s.room) c room) none
-    some_room bs false c none = room_there c.0.output s.room (subst (λ (q : Outcome). HasRoom q.output s.room) c.2 room) none
+    some_room : (bs : List ℕ) → JobComes (Some bs) None p.job o → s.room ≡ None → ⊥
+    some_room bs c none = room_there c.0.output s.room (subst (λ (q : Outcome). HasRoom q.output s.room) c.2 room) none
 
-    no_output_left : (bs : List ℕ) (can : Bool) → bytes_at s p.input ≡ Some bs → can_write ≡ can → (can ≡ false) ⊎ (s.room ≡ None) → Left (not_opened true) → Left o
-    no_output_left bs false bytes can why l = left_as (not_opened true) (comes_at (Some bs) false one_file bytes can refl) l
-    no_output_left bs true bytes can (inl why) l = absurd (no_both true why refl)
-    no_output_left bs true bytes can (inr why) l = absurd (some_room bs one_file (comes_at (Some bs) true one_file bytes can refl) why)
-
-    closed_empty : (m : MemOut) → s.room ≡ Some m → new.written ≡ Some m → Took [] s.room new.written
-    closed_empty m is closed = record { before = m; after = m; room_is = is; output_is = closed; bytes_are = sym (append-nil (written m)) }
-
-    refused_left : (u : Unopened) → NotOpened (bytes_at s p.input) can_write one_file s.room s.written u new.written → Reports e (unopened_line u) → status ≡ unopened_status u → Left o
+    refused_left : (u : Unopened) → NotOpened (bytes_at s p.input) (unopened s p) s.room s.written u new.written → Reports e (unopened_line u) → status ≡ unopened_status u → Left o
     refused_left u (by_input none is after) line was =
-        left_as (not_opened false) (comes_at None can_write one_file none refl refl)
-        (leave (not_opened false) after (subst (λ (v : Unopened). Reports e (unopened_line v)) is line) (was ∙ ap unopened_status is))
-    refused_left u (by_output bs bytes why is after) line was =
-        no_output_left bs can_write bytes refl why
-        (leave (not_opened true) after (subst (λ (v : Unopened). Reports e (unopened_line v)) is line) (was ∙ ap unopened_status is))
-    refused_left u (by_both bs m bytes can one room_is is after) line was =
-        left_as same_file (comes_at (Some bs) true true bytes can one)
-        (leave same_file (closed_empty m room_is after) (subst (λ (v : Unopened). Reports e (unopened_line v)) is line) (was ∙ ap unopened_status is))
+        left_as not_opened (comes_at None (unopened s p) none refl)
+        (leave not_opened after (subst (λ (v : Unopened). Reports e (unopened_line v)) is line) (was ∙ ap unopened_status is))
+    refused_left u (by_output bs bytes (inl is) after) line was = left_as (not_begun u) (comes_at (Some bs) (Some u) bytes is) (leave (not_begun u) after line was)
+    refused_left u (by_output bs bytes (inr none) after) line was = absurd (some_room bs (comes_at (Some bs) None bytes none.0) none.1)
 
     job_left : Works may_do memory_reader memory_writer p e s status new → Left o
-    job_left (program.not_opened u opens line was) = refused_left u (devices_are s p.input p.output (Err u) new opens) line was
+    job_left (program.not_opened u opens line was) = refused_left u (devices_are s p (Err u) new opens) line was
     job_left (program.has_run i d had opens runs) =
-        let x = devices_are s p.input p.output (Ok (i, d)) had opens in
-        let c = comes_at (Some i.device.rest.now) true false x.bytes_are x.can x.apart in
+        let x = devices_are s p (Ok (i, d)) had opens in
+        let c = comes_at (Some i.device.rest.now) None x.bytes_are x.can_is in
         left_as (answered c.0) c.2
         (run_left p i d had c.0 x.room_is (room_fits c.0.output s.room d.device.out x.room_is (subst (λ (q : Outcome). HasRoom q.output s.room) c.2 room)) c.1 runs)
 
   -- a plan was followed, by its job
   module _ (p : Plan) (o : Outcome) (room : HasRoom o.output s.room) where
     abbrev Job_comes : Job → Type 0
-    Job_comes job = JobComes (bytes_at s p.input) (is_writable p.output) (is_one_file (number_at s p.input) (number_at s p.output)) job o
+    Job_comes job = JobComes (bytes_at s p.input) (unopened s p) job o
 
     plan_left : (job : Job) → p.job ≡ job → PlanComesAs job s p o → WorksAs job may_do memory_reader memory_writer p e s status new → Left o
     plan_left (dump d m b) is comes works = job_left p o (subst Job_comes (sym is) comes) room works
     plan_left (dump_decoded d m b) is comes works = job_left p o (subst Job_comes (sym is) comes) room works
+    plan_left (dump_named x d m b n) is comes works = job_left p o (subst Job_comes (sym is) comes) room works
     plan_left (convert d t) is comes works = job_left p o (subst Job_comes (sym is) comes) room works
     plan_left (build l) is comes works = job_left p o (subst Job_comes (sym is) comes) room works
     plan_left (modify d es) is comes works = job_left p o (subst Job_comes (sym is) comes) room works
@@ -181,13 +132,12 @@ module _ (s new : MemSystem) (errors new_errors : MemOut) (status : ℕ) where
 
   -- a text was shown
   shows_left : (topic : Topic) → HasRoom (shown topic).output s.room → Shows may_do memory_writer (text topic) e s status new → Left (shown topic)
-  shows_left topic room (program.no_stdout x u gave cause line was) =
-      absurd (elim (made true None Other s.room (Err x) refl (inl refl) gave.0).0 [ inl n ↦ no_both true n refl | inr n ↦ room_there (text topic) s.room room n ])
+  shows_left topic room (program.no_stdout x u gave cause line was) = absurd (room_there (text topic) s.room room (no_room s.room Other x gave.0).0)
   shows_left topic room (program.shows d output had gave puts closes) =
-      let is = (made true None Other s.room (Ok d) refl (inl refl) gave.0).1 in
+      let is = (room_given None s.room Other d refl gave.0).1 in
       let t = text_left d.device.out output.out e (text topic) status puts (room_fits (text topic) s.room d.device.out is room).1 in
       leave (shown topic)
-      (record { before = d.device.out; after = output.out; room_is = is; output_is = ap (λ (z : MemSystem). z.written) closes; bytes_are = t.0 }) t.1 t.2
+      (record { before = d.device.out; after = output.out; room_is = is; output_is = ap (λ (z : MemSystem). z.written) closes.call.1; bytes_are = t.0 }) t.1 t.2
 
   -- nothing was opened
   refuses_left : (u : Usage) → Reports e (usage_line u) → status ≡ usage_status u → new ≡ s → Left (spec.refused u)
@@ -208,11 +158,10 @@ module _ (s new : MemSystem) (errors new_errors : MemOut) (status : ℕ) where
 -- ---- one outcome, and always one
 
 module _ (s : MemSystem) where
-  one_job : (bytes : Option (List ℕ)) (can is_one : Bool) (job : Job) (o q : Outcome) → JobComes bytes can is_one job o → JobComes bytes can is_one job q → o ≡ q
-  one_job None can is_one job o q a b = a ∙ sym b
-  one_job (Some bs) false is_one job o q a b = a ∙ sym b
-  one_job (Some bs) true true job o q a b = a ∙ sym b
-  one_job (Some bs) true false job o q a b = a.2 ∙ ap answered (one_answer job bs a.0 b.0 a.1 b.1) ∙ sym b.2
+  one_job : (bytes : Option (List ℕ)) (because : Option Unopened) (job : Job) (o q : Outcome) → JobComes bytes because job o → JobComes bytes because job q → o ≡ q
+  one_job None because job o q a b = a ∙ sym b
+  one_job (Some bs) (Some u) job o q a b = a ∙ sym b
+  one_job (Some bs) None job o q a b = a.2 ∙ ap answered (one_answer job bs a.0 b.0 a.1 b.1) ∙ sym b.2
 
   one_whole : (bytes : Option (List ℕ)) (why : Option Unopened) (is_stream : Bool) (job : Job) (o q : Outcome) → WholeComes bytes why is_stream job o → WholeComes bytes why is_stream job q → o ≡ q
   one_whole None why is_stream job o q a b = a ∙ sym b
@@ -243,11 +192,12 @@ module _ (s : MemSystem) where
   one_deidentified (Some path) p options reports o q a b = one_key (key_of (bytes_at s path)) p options reports o q a b
 
   one_plan : (job : Job) (p : Plan) (o q : Outcome) → PlanComesAs job s p o → PlanComesAs job s p q → o ≡ q
-  one_plan (dump d m t) p o q a b = one_job (bytes_at s p.input) (is_writable p.output) (is_one_file (number_at s p.input) (number_at s p.output)) (dump d m t) o q a b
-  one_plan (dump_decoded d m t) p o q a b = one_job (bytes_at s p.input) (is_writable p.output) (is_one_file (number_at s p.input) (number_at s p.output)) (dump_decoded d m t) o q a b
-  one_plan (convert d t) p o q a b = one_job (bytes_at s p.input) (is_writable p.output) (is_one_file (number_at s p.input) (number_at s p.output)) (convert d t) o q a b
-  one_plan (build l) p o q a b = one_job (bytes_at s p.input) (is_writable p.output) (is_one_file (number_at s p.input) (number_at s p.output)) (build l) o q a b
-  one_plan (modify d es) p o q a b = one_job (bytes_at s p.input) (is_writable p.output) (is_one_file (number_at s p.input) (number_at s p.output)) (modify d es) o q a b
+  one_plan (dump d m t) p o q a b = one_job (bytes_at s p.input) (unopened s p) (dump d m t) o q a b
+  one_plan (dump_decoded d m t) p o q a b = one_job (bytes_at s p.input) (unopened s p) (dump_decoded d m t) o q a b
+  one_plan (dump_named x d m t n) p o q a b = one_job (bytes_at s p.input) (unopened s p) (dump_named x d m t n) o q a b
+  one_plan (convert d t) p o q a b = one_job (bytes_at s p.input) (unopened s p) (convert d t) o q a b
+  one_plan (build l) p o q a b = one_job (bytes_at s p.input) (unopened s p) (build l) o q a b
+  one_plan (modify d es) p o q a b = one_job (bytes_at s p.input) (unopened s p) (modify d es) o q a b
   one_plan (deidentify options reports key) p o q a b = one_deidentified p.key p options reports o q a b
 
   one_by : (topic : Option Topic) (plan : Result Plan Usage) (o q : Outcome) → ComesBy topic plan s o → ComesBy topic plan s q → o ≡ q
@@ -258,14 +208,13 @@ module _ (s : MemSystem) where
   pub one_outcome : (words : List (List ℕ)) (o q : Outcome) → Comes words s o → Comes words s q → o ≡ q
   one_outcome words o q a b = one_by (asked words) (meant words) o q a b
 
-  some_job : (bytes : Option (List ℕ)) (can is_one : Bool) (job : Job) → (o : Outcome) × JobComes bytes can is_one job o
-  some_job None can is_one job = (not_opened false, refl)
-  some_job (Some bs) false is_one job = (not_opened true, refl)
-  some_job (Some bs) true true job = (same_file, refl)
-  some_job (Some bs) true false job = let a = some_answer job bs in (answered a.0, (a.0, a.1, refl))
+  some_job : (bytes : Option (List ℕ)) (because : Option Unopened) (job : Job) → (o : Outcome) × JobComes bytes because job o
+  some_job None because job = (not_opened, refl)
+  some_job (Some bs) (Some u) job = (not_begun u, refl)
+  some_job (Some bs) None job = let a = some_answer job bs in (answered a.0, (a.0, a.1, refl))
 
   some_whole : (bytes : Option (List ℕ)) (why : Option Unopened) (is_stream : Bool) (job : Job) → (o : Outcome) × WholeComes bytes why is_stream job o
-  some_whole None why is_stream job = (not_opened false, refl)
+  some_whole None why is_stream job = (not_opened, refl)
   some_whole (Some bs) (Some u) is_stream job = (not_begun u, refl)
   some_whole (Some bs) None is_stream job = let a = some_answer job bs in (ended is_stream a.0, (a.0, a.1, refl))
 
@@ -295,11 +244,12 @@ module _ (s : MemSystem) where
   some_deidentified (Some path) p options reports = some_key (key_of (bytes_at s path)) p options reports
 
   some_plan : (job : Job) (p : Plan) → (o : Outcome) × PlanComesAs job s p o
-  some_plan (dump d m t) p = some_job (bytes_at s p.input) (is_writable p.output) (is_one_file (number_at s p.input) (number_at s p.output)) (dump d m t)
-  some_plan (dump_decoded d m t) p = some_job (bytes_at s p.input) (is_writable p.output) (is_one_file (number_at s p.input) (number_at s p.output)) (dump_decoded d m t)
-  some_plan (convert d t) p = some_job (bytes_at s p.input) (is_writable p.output) (is_one_file (number_at s p.input) (number_at s p.output)) (convert d t)
-  some_plan (build l) p = some_job (bytes_at s p.input) (is_writable p.output) (is_one_file (number_at s p.input) (number_at s p.output)) (build l)
-  some_plan (modify d es) p = some_job (bytes_at s p.input) (is_writable p.output) (is_one_file (number_at s p.input) (number_at s p.output)) (modify d es)
+  some_plan (dump d m t) p = some_job (bytes_at s p.input) (unopened s p) (dump d m t)
+  some_plan (dump_decoded d m t) p = some_job (bytes_at s p.input) (unopened s p) (dump_decoded d m t)
+  some_plan (dump_named x d m t n) p = some_job (bytes_at s p.input) (unopened s p) (dump_named x d m t n)
+  some_plan (convert d t) p = some_job (bytes_at s p.input) (unopened s p) (convert d t)
+  some_plan (build l) p = some_job (bytes_at s p.input) (unopened s p) (build l)
+  some_plan (modify d es) p = some_job (bytes_at s p.input) (unopened s p) (modify d es)
   some_plan (deidentify options reports key) p = some_deidentified p.key p options reports
 
   some_by : (topic : Option Topic) (plan : Result Plan Usage) → (o : Outcome) × ComesBy topic plan s o

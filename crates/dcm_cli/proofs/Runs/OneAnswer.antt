@@ -17,7 +17,8 @@ use Rattle.dcm_head.proofs.HeadReading.State.{described}
 use Rattle.dcm_head.proofs.HeadReading.Answers.{told}
 use Rattle.dcm_stream.proofs.Steps.ReadsSome.{plain, in_order, for_target}
 use Rattle.dcm_editor.proofs.ReadBack.IdentityBar.{identity_read}
-use Rattle.dcm_words.specs.Words.{Job, dump, dump_decoded, convert, build as building, modify, deidentify}
+use Rattle.dcm_words.specs.declared.job.Texts.{Texts}
+use Rattle.dcm_words.specs.Words.{Job, dump, dump_decoded, dump_named, Named, convert, build as building, modify, deidentify}
 use Rattle.dcm_cli.specs.Answer.{job_dictionary, HeadIs, Answer, Answers, Source, unopened, file as a_file, alone, answer, built_answer, set_at, job_bar, target_syntax, refuses_change, FileReads, not_opened, not_changed, opened, AloneReads}
 use Rattle.dcm_cli.proofs.Passes.MetaHeads.{group_spelled}
 use Rattle.dcm_cli.proofs.Runs.OneSource.{one_source}
@@ -27,7 +28,7 @@ use Rattle.dcm_cli.proofs.Runs.OneSource.{one_source}
 alike : (job : Job) (a b : Answer) (x y : Source) → a ≡ answer job x → b ≡ answer job y → x ≡ y → a ≡ b
 alike job a b x y e f same = e ∙ ap (λ (z : Source). answer job z) same ∙ sym f
 
-alone_once : (syntax : Syntax) (bytes : List ℕ) (x y : Source) → AloneReads syntax bytes x → AloneReads syntax bytes y → x ≡ y
+pub alone_once : (syntax : Syntax) (bytes : List ℕ) (x y : Source) → AloneReads syntax bytes x → AloneReads syntax bytes y → x ≡ y
 alone_once syntax bytes x y h k =
     let one = reads_once no_bar syntax 0 bytes h.set k.set h.stop k.stop h.reads k.reads in
     h.source_is ∙ ap (λ (f : Front). alone syntax f h.stop) one.0 ∙ ap (λ (stop : Stop). alone syntax k.set stop) one.1 ∙ sym k.source_is
@@ -40,9 +41,14 @@ decoded_once : (d : Dictionary) (mode : Mode) (bare : Option Syntax) (input : Li
 decoded_once d mode None input a b x y = alike (dump_decoded d mode None) a b x.source y.source x.answer_is y.answer_is (one_source (dump_decoded d mode None) input x.source y.source x.reads y.reads)
 decoded_once d mode (Some s) input a b x y = alike (dump_decoded d mode (Some s)) a b x.source y.source x.answer_is y.answer_is (alone_once (read_by d s) input x.source y.source x.reads y.reads)
 
+named_once : (texts : Texts) (d : Dictionary) (mode : Mode) (bare : Option Syntax) (n : Named) (input : List ℕ) (a b : Answer) → Answers (dump_named texts d mode bare n) input a → Answers (dump_named texts d mode bare n) input b → a ≡ b
+named_once texts d mode None n input a b x y = alike (dump_named texts d mode None n) a b x.source y.source x.answer_is y.answer_is (one_source (dump_named texts d mode None n) input x.source y.source x.reads y.reads)
+named_once texts d mode (Some s) n input a b x y = alike (dump_named texts d mode (Some s) n) a b x.source y.source x.answer_is y.answer_is (alone_once (read_by d s) input x.source y.source x.reads y.reads)
+
 pub one_answer : (job : Job) (input : List ℕ) (a b : Answer) → Answers job input a → Answers job input b → a ≡ b
 one_answer (dump d mode bare) input a b x y = dumped_once d mode bare input a b x y
 one_answer (dump_decoded d mode bare) input a b x y = decoded_once d mode bare input a b x y
+one_answer (dump_named texts d mode bare n) input a b x y = named_once texts d mode bare n input a b x y
 one_answer (convert d target) input a b x y = alike (convert d target) a b x.source y.source x.answer_is y.answer_is (one_source (convert d target) input x.source y.source x.reads y.reads)
 one_answer (building limit) input a b x y = x ∙ sym y
 one_answer (modify d edits) input a b x y = alike (modify d edits) a b x.source y.source x.answer_is y.answer_is (one_source (modify d edits) input x.source y.source x.reads y.reads)
@@ -54,6 +60,7 @@ one_answer (deidentify options reports key) input a b x y =
 set_read : (job : Job) (coding : Coding) (start : ℕ) (bytes : List ℕ) → start ≤ INPUT_LIMIT → (f : Front) × (stop : Stop) × Reads (job_bar job coding) coding.syntax start bytes f stop
 set_read (dump d mode bare) coding start bytes le = plain coding.syntax start bytes le
 set_read (dump_decoded d mode bare) coding start bytes le = plain coding.syntax start bytes le
+set_read (dump_named texts d mode bare n) coding start bytes le = plain coding.syntax start bytes le
 set_read (convert d target) coding start bytes le = for_target (target_syntax target coding) coding.syntax start bytes le
 set_read (building limit) coding start bytes le = plain coding.syntax start bytes le
 set_read (modify d edits) coding start bytes le = in_order coding.syntax start bytes le
@@ -95,9 +102,18 @@ decoded : (d : Dictionary) (mode : Mode) (bare : Option Syntax) (input : List �
 decoded d mode None input = let x = file_read (dump_decoded d mode None) input in (answer (dump_decoded d mode None) x.0, record { source = x.0; reads = x.1; answer_is = refl })
 decoded d mode (Some s) input = decoded_alone d mode s input (plain (read_by d s) 0 input (omega arith))
 
+named_alone : (texts : Texts) (d : Dictionary) (mode : Mode) (n : Named) (s : Syntax) (input : List ℕ) → (f : Front) × (stop : Stop) × Reads no_bar (read_by d s) 0 input f stop → (a : Answer) × Answers (dump_named texts d mode (Some s) n) input a
+named_alone texts d mode n s input (f, stop, reads) =
+    (answer (dump_named texts d mode (Some s) n) (alone (read_by d s) f stop), record { source = alone (read_by d s) f stop; reads = record { set = f; stop = stop; reads = reads; source_is = refl }; answer_is = refl })
+
+named : (texts : Texts) (d : Dictionary) (mode : Mode) (bare : Option Syntax) (n : Named) (input : List ℕ) → (a : Answer) × Answers (dump_named texts d mode bare n) input a
+named texts d mode None n input = let x = file_read (dump_named texts d mode None n) input in (answer (dump_named texts d mode None n) x.0, record { source = x.0; reads = x.1; answer_is = refl })
+named texts d mode (Some s) n input = named_alone texts d mode n s input (plain (read_by d s) 0 input (omega arith))
+
 pub some_answer : (job : Job) (input : List ℕ) → (a : Answer) × Answers job input a
 some_answer (dump d mode bare) input = dumped d mode bare input
 some_answer (dump_decoded d mode bare) input = decoded d mode bare input
+some_answer (dump_named texts d mode bare n) input = named texts d mode bare n input
 some_answer (convert d target) input = let x = file_read (convert d target) input in (answer (convert d target) x.0, record { source = x.0; reads = x.1; answer_is = refl })
 some_answer (building limit) input = (built_answer (build.built limit input), refl)
 some_answer (modify d edits) input = let x = file_read (modify d edits) input in (answer (modify d edits) x.0, record { source = x.0; reads = x.1; answer_is = refl })

@@ -23,7 +23,7 @@ use Rattle.dcm_cli.proofs.Passes.MetaHeads.{group_spelled}
 use Rattle.dcm_cli.proofs.Runs.OneSource.{heads_alike}
 use Rattle.dcm_cli.proofs.Runs.Sure.{beginnings_alike}
 
-never_begins : (f : Fault) (n : ℕ) (m : Meta) (group : List ℕ) (coding : Coding) → refused f n ≡ begins m group coding → ⊥
+pub never_begins : (f : Fault) (n : ℕ) (m : Meta) (group : List ℕ) (coding : Coding) → refused f n ≡ begins m group coding → ⊥
 never_begins f n m group coding e = cc
 
 faults_alike : (f g : Fault) (m n : ℕ) → refused f m ≡ refused g n → Refused (record { fault = f; at = m }) ≡ Refused (record { fault = g; at = n })

@@ -20,7 +20,7 @@ use Rattle.dcm_cli.proofs.Runs.Sure.{beginnings_alike}
 faults_alike : (f g : Fault) (m n : ℕ) → meta_refused f m ≡ meta_refused g n → unopened f m ≡ unopened g n
 faults_alike f g m n e = let fault : f ≡ g = cc in let offset : m ≡ n = cc in cc
 
-never_begins : (f : Fault) (n : ℕ) (m : Meta) (group : List ℕ) (coding : Coding) → meta_refused f n ≡ begins m group coding → ⊥
+pub never_begins : (f : Fault) (n : ℕ) (m : Meta) (group : List ℕ) (coding : Coding) → meta_refused f n ≡ begins m group coding → ⊥
 never_begins f n m group coding e = cc
 
 never_both : (job : Job) (c d : Coding) → c ≡ d → refuses_change job c ≡ true → refuses_change job d ≡ false → ⊥

@@ -1,4 +1,6 @@
 -- What a run leaves, by how the work on its job ended.
+use Rattle.dcm_words.specs.Plans.{named_as}
+use Rattle.dcm_cli.proofs.Passes.NamedJobs.{of_named}
 use Rattle.std.proofs.Common.{◌≡◌, ◌∙◌, ap, sym, subst, ℕ, ◌<◌, ◌≤◌, ◌^◌, List, [], ◌++◌, length, Bool, true, false, Option, None, Some, refl, inl, inr, ◌⊎◌}
 use Rattle.std.specs.Prelude.{if◌then◌else◌, ◌&&◌}
 use Rattle.std.specs.Io.KnownBytes.{append_known}
@@ -15,7 +17,7 @@ use Rattle.dcm_deid.specs.declared.fate.Options.{Options}
 use Rattle.dcm_edits.specs.Edit.{Edit}
 use Rattle.dcm_words.specs.declared.job.Texts.{Texts}
 use Rattle.dcm_words.specs.declared.job.Texts.TheVariants.{Bytes, Characters}
-use Rattle.dcm_words.specs.Words.{Job, dump, dump_decoded, dump_as, convert, build as building, modify, deidentify}
+use Rattle.dcm_words.specs.Words.{Job, dump, dump_decoded, dump_named, Named, dump_as, convert, build as building, modify, deidentify}
 use Rattle.dcm_words.specs.declared.job.Job.{Job as RunJob}
 use Rattle.dcm_words.specs.declared.job.Job.TheVariants.{Dump, Convert, Build, Modify, Deidentify}
 use Rattle.dcm_cli.specs.declared.ending.Ending.{Ending}
@@ -26,7 +28,9 @@ use Rattle.dcm_cli.specs.declared.ending.Verdict.TheVariants.{Done, RefusedLine}
 use Rattle.dcm_cli.specs.Answer.{Answer, Answers, Sure, Source, unopened, file, alone, ReadAnswers, answer, building_line, output_of, done_lines, unplaced_lines, status_of_lines, shows_identity, stop_line, stop_status}
 use Rattle.dcm_cli.specs.Pass.{TellsUnread, TellsOutput}
 use Rattle.dcm_cli.specs.InputCalls.{How, Allows}
-use Rattle.dcm_cli.specs.Run.{AnsweredAll, AnswersAll, IsDecided, IsMeant, Answered, ReadEnds, BuildEnds, Worked, answered, could_not_read, could_not_write, FlushedAs, done_verdict, verdict_at, verdict_of_source, verdict_of_line_stop, unplaced_mask, verdict_lines, verdict_status, ending_lines, ending_status, Ran, as_answered, not_read, not_written, not_flushed}
+use Rattle.dcm_cli.specs.declared.ending.Remarks.{Remarks}
+use Rattle.dcm_cli.specs.Remarks.{no_remarks, remark_lines, remarks_at, remarks_told}
+use Rattle.dcm_cli.specs.Run.{Remarked, RemarkedAs, SoFarRemarked, source_remarks, AnsweredAll, AnswersAll, IsDecided, IsMeant, Answered, ReadEnds, BuildEnds, Worked, answered, could_not_read, could_not_write, FlushedAs, done_verdict, verdict_at, verdict_of_source, verdict_of_line_stop, unplaced_mask, verdict_lines, verdict_status, ending_lines, ending_status, Ran, as_answered, not_read, not_written, not_flushed}
 use Rattle.dcm_cli.specs.Change.{Change}
 use Rattle.dcm_cli.specs.ErrorLines.{Reports, pixels_line}
 use Rattle.dcm_words.specs.Plans.{job_of}
@@ -34,10 +38,11 @@ use Rattle.dcm_cli.proofs.Passes.Files.{pixels_verdict}
 use Rattle.dcm_cli.proofs.Passes.MakesEdits.{are_few}
 use Rattle.dcm_cli.proofs.Passes.Readers.{allows_nothing}
 use Rattle.dcm_cli.proofs.Runs.OneAnswer.{one_answer}
+use Rattle.dcm_cli.proofs.Runs.OneSource.{one_source}
 use Rattle.dcm_cli.proofs.Lines.Unplaced.{no_lines, lines_of_mask, status_of_mask, few_without, few_edits}
 
 -- the answer of an input that was read
-output_is : (job : Job) (source : Source) → output_of job source ≡ (answer job source).output
+pub output_is : (job : Job) (source : Source) → output_of job source ≡ (answer job source).output
 output_is job (unopened fault offset) = refl
 output_is job (file meta coding set stop) = refl
 output_is job (alone syntax set stop) = refl
@@ -52,10 +57,10 @@ module _ (job : Job) (told : IsTold job) where
   lines_at set complete = told.lines set
   lines_at set (refused fault offset) = refl
 
-  lines_are : (source : Source) → verdict_lines (verdict_of_source job source) ≡ (answer job source).lines
+  lines_are : (source : Source) → remark_lines (source_remarks job source) ++ verdict_lines (verdict_of_source job source) ≡ (answer job source).lines
   lines_are (unopened fault offset) = refl
-  lines_are (file meta coding set stop) = lines_at set stop
-  lines_are (alone syntax set stop) = lines_at set stop
+  lines_are (file meta coding set stop) = ap (λ (bs : List ℕ). remark_lines (remarks_at job set) ++ bs) (lines_at set stop)
+  lines_are (alone syntax set stop) = ap (λ (bs : List ℕ). remark_lines (remarks_at job set) ++ bs) (lines_at set stop)
 
   status_at : (set : Front) (stop : Stop) → verdict_status (verdict_at job set stop) ≡ stop_status job set stop
   status_at set complete = told.status set
@@ -89,6 +94,9 @@ dump_told d mode bare = record { lines = edits_lines [] few_without; status = ed
 decoded_told : (d : Dictionary) (mode : Mode) (bare : Option Syntax) → IsTold (dump_decoded d mode bare)
 decoded_told d mode bare = record { lines = edits_lines [] few_without; status = edits_status [] few_without }
 
+named_told : (texts : Texts) (d : Dictionary) (mode : Mode) (bare : Option Syntax) (n : Named) → IsTold (dump_named texts d mode bare n)
+named_told texts d mode bare n = record { lines = edits_lines [] few_without; status = edits_status [] few_without }
+
 convert_told : (d : Dictionary) (target : Option Syntax) → IsTold (convert d target)
 convert_told d target = record { lines = edits_lines [] few_without; status = edits_status [] few_without }
 
@@ -107,18 +115,22 @@ deidentify_told options reports key = record {
 
 record Given (job : Job) (input out : List ℕ) (verdict : Verdict) : Type 0 where
   a : Answer
+  remarks : Remarks
   answers : Answers job input a
   output_is : out ≡ a.output
-  lines_are : verdict_lines verdict ≡ a.lines
+  one_remarked : (r : Remarks) → Remarked job input r → r ≡ remarks
+  lines_are : remark_lines remarks ++ verdict_lines verdict ≡ a.lines
   status_is : verdict_status verdict ≡ a.status
 
 -- a data set that was read
-reads_given : (job : Job) (input out : List ℕ) (verdict : Verdict) → IsTold job → ((a : Answer) → ReadAnswers job input a → Answers job input a) → ReadEnds job input out verdict → Given job input out verdict
-reads_given job input out verdict told answers h = record {
+reads_given : (job : Job) (input out : List ℕ) (verdict : Verdict) → IsTold job → ((a : Answer) → ReadAnswers job input a → Answers job input a) → (h : ReadEnds job input out verdict) → ((r : Remarks) → Remarked job input r → r ≡ source_remarks job h.source) → Given job input out verdict
+reads_given job input out verdict told answers h one = record {
   a = answer job h.source;
+  remarks = source_remarks job h.source;
+  one_remarked = one;
   answers = answers (answer job h.source) (record { source = h.source; reads = h.reads; answer_is = refl });
   output_is = h.out_is ∙ output_is job h.source;
-  lines_are = ap verdict_lines h.verdict_is ∙ lines_are job told h.source;
+  lines_are = ap (λ (v : Verdict). remark_lines (source_remarks job h.source) ++ verdict_lines v) h.verdict_is ∙ lines_are job told h.source;
   status_is = ap verdict_status h.verdict_is ∙ status_is job told h.source;
 }
 
@@ -135,6 +147,8 @@ module _ (limit : ℕ) (input out : List ℕ) (verdict : Verdict) (h : BuildEnds
       let is : verdict ≡ Done 0 = h.verdict_is ∙ ap verdict_of_line_stop e in
       record {
         a = record { output = build.built_bytes (build.built limit input).built; lines = []; status = 0 };
+        remarks = no_remarks;
+        one_remarked = λ r h. h;
         answers = sym (ap (answer_of (build.built limit input).built) e);
         output_is = h.out_is;
         lines_are = ap verdict_lines is ∙ no_lines 64 1;
@@ -144,6 +158,8 @@ module _ (limit : ℕ) (input out : List ℕ) (verdict : Verdict) (h : BuildEnds
       let is : verdict ≡ RefusedLine t = h.verdict_is ∙ ap verdict_of_line_stop e in
       record {
         a = record { output = build.built_bytes (build.built limit input).built; lines = building_line t; status = 2 };
+        remarks = no_remarks;
+        one_remarked = λ r h. h;
         answers = sym (ap (answer_of (build.built limit input).built) e);
         output_is = h.out_is;
         lines_are = ap verdict_lines is;
@@ -153,18 +169,51 @@ module _ (limit : ℕ) (input out : List ℕ) (verdict : Verdict) (h : BuildEnds
   built_given : Given (building limit) input out verdict
   built_given = by_told (build.built limit input).told refl
 
+-- jobs that remark nothing
+abbrev RemarksNothing : Job → Type 0
+RemarksNothing job = (source : Source) → source_remarks job source ≡ no_remarks
+
+dump_remarks : (d : Dictionary) (mode : Mode) (bare : Option Syntax) → RemarksNothing (dump d mode bare)
+dump_remarks d mode bare (unopened fault offset) = refl
+dump_remarks d mode bare (file meta coding set stop) = refl
+dump_remarks d mode bare (alone syntax set stop) = refl
+
+decoded_remarks : (d : Dictionary) (mode : Mode) (bare : Option Syntax) → RemarksNothing (dump_decoded d mode bare)
+decoded_remarks d mode bare (unopened fault offset) = refl
+decoded_remarks d mode bare (file meta coding set stop) = refl
+decoded_remarks d mode bare (alone syntax set stop) = refl
+
+named_remarks : (texts : Texts) (d : Dictionary) (mode : Mode) (bare : Option Syntax) (n : Named) → RemarksNothing (dump_named texts d mode bare n)
+named_remarks texts d mode bare n (unopened fault offset) = refl
+named_remarks texts d mode bare n (file meta coding set stop) = refl
+named_remarks texts d mode bare n (alone syntax set stop) = refl
+
+convert_remarks : (d : Dictionary) (target : Option Syntax) → RemarksNothing (convert d target)
+convert_remarks d target (unopened fault offset) = refl
+convert_remarks d target (file meta coding set stop) = refl
+convert_remarks d target (alone syntax set stop) = refl
+
+modify_remarks : (d : Dictionary) (edits : List Edit) → RemarksNothing (modify d edits)
+modify_remarks d edits (unopened fault offset) = refl
+modify_remarks d edits (file meta coding set stop) = refl
+modify_remarks d edits (alone syntax set stop) = refl
+
 -- by how texts are shown
 dumped_given : (texts : Texts) (d : Dictionary) (mode : Mode) (bare : Option Syntax) (input out : List ℕ) (verdict : Verdict) → Answered (dump_as texts d mode bare) input out verdict → Given (dump_as texts d mode bare) input out verdict
-dumped_given Bytes d mode bare input out verdict h = reads_given (dump d mode bare) input out verdict (dump_told d mode bare) (λ a reads. reads) h
-dumped_given Characters d mode bare input out verdict h = reads_given (dump_decoded d mode bare) input out verdict (decoded_told d mode bare) (λ a reads. reads) h
+dumped_given Bytes d mode bare input out verdict h = reads_given (dump d mode bare) input out verdict (dump_told d mode bare) (λ a reads. reads) h (λ r is. is ∙ sym (dump_remarks d mode bare h.source))
+dumped_given Characters d mode bare input out verdict h = reads_given (dump_decoded d mode bare) input out verdict (decoded_told d mode bare) (λ a reads. reads) h (λ r is. is ∙ sym (decoded_remarks d mode bare h.source))
 
 given : {A : Type 0} (job : RunJob A) → IsMeant (job_of job) → (input out : List ℕ) (verdict : Verdict) → Answered (job_of job) input out verdict → Given (job_of job) input out verdict
-given (Dump d) meant input out verdict h = dumped_given d.texts d.dictionary d.mode d.bare input out verdict h
-given (Convert c) meant input out verdict h = reads_given (convert c.dictionary c.target) input out verdict (convert_told c.dictionary c.target) (λ a reads. reads) h
+given (Dump d) meant input out verdict h =
+    let n = named_as d.named in
+    of_named (λ (j : Job). Answered j input out verdict → Given j input out verdict) n d.texts d.dictionary d.mode d.bare (dumped_given d.texts d.dictionary d.mode d.bare input out verdict)
+    (λ h. reads_given (dump_named d.texts d.dictionary d.mode d.bare n) input out verdict (named_told d.texts d.dictionary d.mode d.bare n) (λ a reads. reads) h (λ r is. is ∙ sym (named_remarks d.texts d.dictionary d.mode d.bare n h.source))) h
+given (Convert c) meant input out verdict h = reads_given (convert c.dictionary c.target) input out verdict (convert_told c.dictionary c.target) (λ a reads. reads) h (λ r is. is ∙ sym (convert_remarks c.dictionary c.target h.source))
 given (Build b) meant input out verdict h = built_given b.limit input out verdict h
-given (Modify m) meant input out verdict h = reads_given (modify m.dictionary m.edits) input out verdict (modify_told m.dictionary m.edits (are_few m.dictionary m.edits meant)) (λ a reads. reads) h
+given (Modify m) meant input out verdict h = reads_given (modify m.dictionary m.edits) input out verdict (modify_told m.dictionary m.edits (are_few m.dictionary m.edits meant)) (λ a reads. reads) h (λ r is. is ∙ sym (modify_remarks m.dictionary m.edits h.source))
 given (Deidentify d) meant input out verdict h =
     reads_given (deidentify d.options d.reports d.key.items) input out verdict (deidentify_told d.options d.reports d.key.items) (λ a reads. reads) h
+    (λ r x. x.remarks_are ∙ ap (source_remarks (deidentify d.options d.reports d.key.items)) (one_source (deidentify d.options d.reports d.key.items) input x.source h.source x.reads h.reads))
 
 -- what was read, where the rest is known
 one_front : (before p rest left : List ℕ) → before ++ rest ≡ p ++ left → Some rest ≡ Some left → p ≡ before
@@ -175,11 +224,11 @@ one_front before p rest left whole at =
 same_answer : (a b : Answer) → a.output ≡ b.output → a.lines ≡ b.lines → a.status ≡ b.status → a ≡ b
 same_answer a b output lines status = λ i. record { output = output i; lines = lines i; status = status i }
 
-module _ {A : Type 0} (job : RunJob A) (meant : IsMeant (job_of job)) (before : List ℕ) (how : How) (worked : Option (List ℕ)) (o e : Change) (r_old r_new w_old w_mid : Bool) (ending after : Ending) (status : ℕ)
+module _ {A : Type 0} (job : RunJob A) (meant : IsMeant (job_of job)) (before : List ℕ) (how : How) (worked : Option (List ℕ)) (o e : Change) (r_old r_new w_old w_mid : Bool) (ending after : Ending) (remarks : Remarks) (status : ℕ)
     (kept : o.after ≡ worked) (flushed : FlushedAs ending after w_mid o.failed_after o.room) (unread : TellsUnread r_old r_new ending) (failed : TellsOutput w_old w_mid ending)
-    (line : Reports e (ending_lines after)) (status_was : status ≡ ending_status after) (readable : r_old ≡ false) (writable : w_old ≡ false) where
-  lines_of : (x : Ending) → after ≡ x → Reports e (ending_lines x)
-  lines_of x is = subst (λ (y : Ending). Reports e (ending_lines y)) is line
+    (line : Reports e (remarks_told after remarks ++ ending_lines after)) (remarked : RemarkedAs (job_of job) before how ending remarks) (status_was : status ≡ ending_status after) (readable : r_old ≡ false) (writable : w_old ≡ false) where
+  lines_of : (x : Ending) → after ≡ x → Reports e (remarks_told x remarks ++ ending_lines x)
+  lines_of x is = subst (λ (y : Ending). Reports e (remarks_told y remarks ++ ending_lines y)) is line
 
   status_of : (x : Ending) → after ≡ x → status ≡ ending_status x
   status_of x is = status_was ∙ ap ending_status is
@@ -190,10 +239,19 @@ module _ {A : Type 0} (job : RunJob A) (meant : IsMeant (job_of job)) (before : 
       k : Given (job_of job) (before ++ []) out verdict
       k = given job meant (before ++ []) out verdict (all [] (allows_nothing how))
 
+      told : (rest : List ℕ) → Allows how rest → Remarked (job_of job) (before ++ rest) remarks
+      told = subst (λ (x : Ending). RemarkedAs (job_of job) before how x remarks) is remarked
+
+      with_remarks : (rest : List ℕ) → Allows how rest → (other : Given (job_of job) (before ++ rest) out verdict) → remark_lines remarks ++ verdict_lines verdict ≡ other.a.lines
+      with_remarks rest ok other = ap (λ (r : Remarks). remark_lines r ++ verdict_lines verdict) (other.one_remarked remarks (told rest ok)) ∙ other.lines_are
+
+      lines_here : remark_lines remarks ++ verdict_lines verdict ≡ k.a.lines
+      lines_here = with_remarks [] (allows_nothing how) k
+
       answers : AnswersAll (job_of job) before how k.a
       answers rest ok =
           let other = given job meant (before ++ rest) out verdict (all rest ok) in
-          subst (Answers (job_of job) (before ++ rest)) (same_answer other.a k.a (sym other.output_is ∙ k.output_is) (sym other.lines_are ∙ k.lines_are) (sym other.status_is ∙ k.status_is)) other.answers
+          subst (Answers (job_of job) (before ++ rest)) (same_answer other.a k.a (sym other.output_is ∙ k.output_is) (sym (with_remarks rest ok other) ∙ lines_here) (sym other.status_is ∙ k.status_is)) other.answers
 
       read : r_new ≡ false
       read = subst (λ (x : Ending). TellsUnread r_old r_new x) is unread ∙ readable
@@ -201,7 +259,7 @@ module _ {A : Type 0} (job : RunJob A) (meant : IsMeant (job_of job)) (before : 
       by_flush : ((after ≡ endings.Worked verdict) × (o.failed_after ≡ w_mid)) ⊎ ((after ≡ Output) × (o.failed_after ≡ true) × (o.room ≡ None)) → Ran (job_of job) before how r_new o e status
       by_flush (inl x) =
           as_answered k.a answers read (x.1 ∙ subst (λ (x : Ending). TellsOutput w_old w_mid x) is failed ∙ writable)
-          (kept ∙ grown ∙ ap (append_known o.before) k.output_is) (subst (Reports e) k.lines_are (lines_of (endings.Worked verdict) x.0)) (status_of (endings.Worked verdict) x.0 ∙ k.status_is)
+          (kept ∙ grown ∙ ap (append_known o.before) k.output_is) (subst (Reports e) lines_here (lines_of (endings.Worked verdict) x.0)) (status_of (endings.Worked verdict) x.0 ∙ k.status_is)
       by_flush (inr x) =
           not_flushed k.a answers read x.1 x.2 (kept ∙ grown ∙ ap (append_known o.before) k.output_is) (lines_of Output x.0) (status_of Output x.0)
 
@@ -226,7 +284,8 @@ module _ {A : Type 0} (job : RunJob A) (meant : IsMeant (job_of job)) (before : 
       by_first (could_not_read p left out whole at sure is grown) =
           let same : p ≡ before = one_front before p [] left whole at in
           let here : after ≡ Unread (length before) = subst (λ (x : Ending). FlushedAs x after w_mid o.failed_after o.room) is flushed ∙ ap (λ (bytes : List ℕ). Unread (length bytes)) same in
-          not_read out (subst (λ (x : Ending). TellsUnread r_old r_new x) is unread) (subst (λ (bytes : List ℕ). Sure (job_of job) bytes out) same sure) (kept ∙ grown)
+          not_read out remarks (subst (λ (x : Ending). TellsUnread r_old r_new x) is unread) (subst (λ (bytes : List ℕ). Sure (job_of job) bytes out) same sure)
+          (subst (λ (x : Ending). RemarkedAs (job_of job) before how x remarks) is remarked) (kept ∙ grown)
           (lines_of (Unread (length before)) here) (status_of (Unread (length before)) here)
       by_first (could_not_write out verdict was is grown) =
           let still : (after ≡ Output) × (o.failed_after ≡ w_mid) = subst (λ (x : Ending). FlushedAs x after w_mid o.failed_after o.room) is flushed in

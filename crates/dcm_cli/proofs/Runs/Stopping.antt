@@ -89,8 +89,8 @@ module _ (job : Job) (is_file : reads_file job ≡ true) (read more : List ℕ) 
   abbrev start : ℕ
   start = 132 + length o.group
 
-  concludes_unread : (after : Option (List ℕ)) (n : ℕ) → Concludes job is_file (read ++ (more ++ [])) after None r o kept k k.maker.first (Unread n) (Unread n)
-  concludes_unread after n = record {
+  concludes_unread : (after : Option (List ℕ)) (t : k.maker.State) (n : ℕ) → Concludes job is_file (read ++ (more ++ [])) after None r o kept k t (Unread n) (Unread n)
+  concludes_unread after t n = record {
     done = λ f stop reads last is. absurd (let no : Unread n ≡ endings.Worked (verdict_of_stop stop) = is in cc);
     not_read = λ count is. is;
     not_written = λ is. is;
@@ -102,10 +102,11 @@ module _ (job : Job) (is_file : reads_file job ≡ true) (read more : List ℕ) 
       let first = start_of o.coding.syntax start in
       let header : Option (List ℕ) = append_known None (k.header o.m) in
       let n = next_offset first + length (set_bytes b buffer ++ more) in
+      let last : k.maker.State = (fold (steps k.maker.bars k.maker.step) (first, k.maker.first) (set_bytes b buffer ++ more)).1 in
       let holds : Option (List ℕ) = append_known header (outputs (steps k.maker.bars k.maker.step) (steps_write k.maker.bars k.maker.step k.maker.writes) (first, k.maker.first) (set_bytes b buffer ++ more)) in
       undecided_of job (read ++ (more ++ [])) (read ++ more) (Some []) None holds n (Unread n) refl (ap Some (sym (append_assoc read more [])))
-      (file_worked job is_file (read ++ (more ++ [])) (Some []) None r o kept k (more ++ []) [] how header k.maker.first holds b buffer read more (Unread n) (Unread n) (concludes_unread (Some []) n) refl refl refl begins refl
-      (λ over. absurd (let no : false ≡ true = sym started ∙ over in cc)) (unread going refl refl))
+      (file_worked job is_file (read ++ (more ++ [])) (Some []) None r o kept k (more ++ []) [] how header last holds b buffer read more (Unread n) (Unread n) (concludes_unread (Some []) last n) refl refl refl begins refl
+      (λ over. absurd (let no : false ≡ true = sym started ∙ over in cc)) (unread going refl refl refl))
 
 -- of a file that is written again
 pub opened_undecided : (target : Option Syntax) (change : HeadChange) (job : Job) → reads_file job ≡ true → (maker : (coding : Coding) → FileMaker job coding) (read more : List ℕ) (how : How) → Allows how (more ++ []) → (held holds : Option (List ℕ)) (buffer : List ℕ) (x : OpenedFile)
@@ -124,5 +125,6 @@ alone_undecided job s k bytes going =
     let mid : Option (List ℕ) = append_known None k.header in
     let out : Option (List ℕ) = append_known mid (outputs (steps k.maker.bars k.maker.step) (steps_write k.maker.bars k.maker.step k.maker.writes) (start_of s 0, k.maker.first) bytes) in
     let n = next_offset (start_of s 0) + length bytes in
+    let last : k.maker.State = (fold (steps k.maker.bars k.maker.step) (start_of s 0, k.maker.first) bytes).1 in
     undecided_of job (bytes ++ []) bytes (Some []) None out n (Unread n) refl refl
-    (alone_worked job s k (bytes ++ []) (Some []) None bytes [] mid k.maker.first out (Unread n) refl refl refl (unread going refl refl))
+    (alone_worked job s k (bytes ++ []) (Some []) None bytes [] mid last out (Unread n) refl refl refl (unread going refl refl refl))

@@ -1,4 +1,6 @@
 -- What is sure of a beginning stands at the front of the output.
+use Rattle.dcm_words.specs.Plans.{named_as}
+use Rattle.dcm_cli.proofs.Passes.NamedJobs.{of_named}
 use Rattle.std.proofs.Common.{◌≡◌, ◌∙◌, ap, sym, subst, ℕ, ◌+◌, ◌≤◌, ◌<◌, List, [], ◌++◌, append_assoc, length, drop, Bool, Option, None, Some, refl, arith, true, false, inl, inr}
 use Rattle.std.specs.Prelude.{◌⊎◌, nat_eq}
 use Rattle.std.proofs.lemmas.List.{append-nil, drop-append-le}
@@ -18,7 +20,7 @@ use Rattle.dcm_edits.specs.Meaning.{AreMeant}
 use Rattle.dcm_deid.specs.declared.fate.Options.{Options}
 use Rattle.dcm_words.specs.declared.job.Texts.{Texts}
 use Rattle.dcm_words.specs.declared.job.Texts.TheVariants.{Bytes, Characters}
-use Rattle.dcm_words.specs.Words.{Job, dump, dump_decoded, dump_as, convert, build as building, modify, deidentify}
+use Rattle.dcm_words.specs.Words.{Job, dump, dump_decoded, dump_named, Named, dump_as, convert, build as building, modify, deidentify}
 use Rattle.dcm_base.proofs.DataSets.OneAnswer.{reads_once}
 use Rattle.dcm_base.specs.Tables.Syntax.{read_by, coding_by}
 use Rattle.dcm_base.specs.declared.dictionary.Dictionary.{Dictionary}
@@ -41,8 +43,8 @@ use Rattle.dcm_cli.proofs.Passes.Sets.{all_read, going_back}
 use Rattle.dcm_cli.proofs.Passes.MetaHeads.{opened, same_head, ended_stays, finished_same, group_spelled}
 use Rattle.dcm_cli.proofs.Runs.LinesGrow.{sure_lines_grow, answer_output}
 use Rattle.dcm_base.specs.Reading.Bars.{no_bar}
-use Rattle.dcm_cli.proofs.Passes.Alone.{AloneMaker, alone_dumper, alone_decoder}
-use Rattle.dcm_cli.proofs.Passes.Files.{FileMaker, file_dumper, file_decoder, file_encoder}
+use Rattle.dcm_cli.proofs.Passes.Alone.{AloneMaker, alone_dumper, alone_decoder, alone_namer}
+use Rattle.dcm_cli.proofs.Passes.Files.{FileMaker, file_dumper, file_decoder, file_namer, file_encoder}
 use Rattle.dcm_cli.proofs.Passes.MakesEdits.{file_editor}
 use Rattle.dcm_cli.proofs.Passes.MakesDeidentified.{file_deidentifier}
 
@@ -171,6 +173,15 @@ decoded_grows d mode (Some bare) p later out a sure x =
     (ap (λ (b : Answer). b.output) x.answer_is ∙ ap (λ (z : Source). (answer (dump_decoded d mode (Some bare)) z).output) r.source_is)
 
 -- by how texts are shown
+named_grows : (texts : Texts) (d : Dictionary) (mode : Mode) (bare : Option Syntax) (n : Named) (p later out : List ℕ) (a : Answer) → Sure (dump_named texts d mode bare n) p out → Answers (dump_named texts d mode bare n) (p ++ later) a → (rest : List ℕ) × (a.output ≡ out ++ rest)
+named_grows texts d mode None n p later out a sure x = file_grows (dump_named texts d mode None n) (file_namer texts d mode n) p later out a x.source sure x.answer_is x.reads
+named_grows texts d mode (Some bare) n p later out a sure x =
+    let s : Syntax = read_by d bare in
+    let r = x.reads in
+    alone_grows (dump_named texts d mode (Some bare) n) s (alone_namer texts d mode n bare) p later out sure.set r.set sure.stop r.stop a sure.reads sure.open_end sure.out_is r.reads
+    (ap (λ (b : Answer). b.output) x.answer_is ∙ ap (λ (z : Source). (answer (dump_named texts d mode (Some bare) n) z).output) r.source_is)
+
+-- by how texts are shown
 dumped_grows : (texts : Texts) (d : Dictionary) (mode : Mode) (bare : Option Syntax) (p later out : List ℕ) (a : Answer) → Sure (dump_as texts d mode bare) p out → Answers (dump_as texts d mode bare) (p ++ later) a → (rest : List ℕ) × (a.output ≡ out ++ rest)
 dumped_grows Bytes d mode bare p later out a sure x = dump_grows d mode bare p later out a sure x
 dumped_grows Characters d mode bare p later out a sure x = decoded_grows d mode bare p later out a sure x
@@ -190,7 +201,9 @@ deidentify_grows : (options : Options) (reports : Bool) (key : List ℕ) (p late
 deidentify_grows options reports key p later out a sure x = file_grows (deidentify options reports key) (file_deidentifier options key reports) p later out a x.source sure x.answer_is x.reads
 
 pub sure_grows : {A : Type 0} (job : RunJob A) (p later out : List ℕ) (a : Answer) → IsMeant (job_of job) → Sure (job_of job) p out → Answers (job_of job) (p ++ later) a → (rest : List ℕ) × (a.output ≡ out ++ rest)
-sure_grows (Dump d) p later out a meant sure x = dumped_grows d.texts d.dictionary d.mode d.bare p later out a sure x
+sure_grows (Dump d) p later out a meant sure x =
+    let n = named_as d.named in
+    of_named (λ (j : Job). Sure j p out → Answers j (p ++ later) a → (rest : List ℕ) × (a.output ≡ out ++ rest)) n d.texts d.dictionary d.mode d.bare (dumped_grows d.texts d.dictionary d.mode d.bare p later out a) (named_grows d.texts d.dictionary d.mode d.bare n p later out a) sure x
 sure_grows (Convert c) p later out a meant sure x = file_grows (convert c.dictionary c.target) (file_encoder c.dictionary c.target) p later out a x.source sure x.answer_is x.reads
 sure_grows (Build b) p later out a meant sure x = build_grows b.limit p later out a sure x
 sure_grows (Modify m) p later out a meant sure x = modify_grows m.dictionary m.edits meant p later out a sure x

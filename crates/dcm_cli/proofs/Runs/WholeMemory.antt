@@ -1,6 +1,6 @@
 -- Identity taken out of a file, over files in memory.
-use Rattle.std.proofs.Common.{◌≡◌, ◌≢◌, ◌∙◌, ap, sym, subst, refl, ◌⊎◌, inl, inr, ◌||◌, ◌&&◌, not, ◌==◌, ◌≤◌, ◌<◌, nat_le, ℕ, ℤ, List, [], ◌∷◌, ◌++◌, length, length-append, bytes_eq, if◌then◌else◌, Bool, true, false, Option, None, Some, Result, Ok, Err, arith}
-use Rattle.std.specs.Option.{option_map, is_some, is_none}
+use Rattle.std.proofs.Common.{◌≡◌, ◌≢◌, ◌∙◌, ap, sym, subst, refl, ◌⊎◌, inl, inr, ◌||◌, ◌&&◌, not, ◌==◌, ◌≤◌, ◌<◌, nat_le, ℕ, ℤ, List, [], ◌++◌, length, length-append, bytes_eq, if◌then◌else◌, Bool, true, false, Option, None, Some, Result, Ok, Err, arith}
+use Rattle.std.specs.Option.{option_map, option_or, is_some}
 use Rattle.std.specs.Str.{IsUtf8, is_utf8}
 use Rattle.std.specs.IoError.{error_kind}
 use Rattle.std.specs.Io.KnownBytes.{append_known}
@@ -10,6 +10,10 @@ use Rattle.std.proofs.lemmas.Bool.Decides.{nat_tests}
 use Rattle.std.proofs.lemmas.List.{append-nil}
 use Rattle.std.proofs.lemmas.Slice.Eq.{bytes_eq-Decides}
 use Rattle.std.proofs.lemmas.Str.{IsUtf8-from_is_utf8}
+use Rattle.dcm_lemmas.proofs.Lists.{no_front}
+use Rattle.dcm_lemmas.proofs.Options.{known_nothing}
+use Rattle.dcm_lemmas.proofs.Choice.{if_true}
+use Rattle.dcm_lemmas.proofs.Truth.{and_parts, is_false, or_before_false, or_second}
 use Rattle.dcm_devices.specs.Device.{AppendsFront}
 use Rattle.dcm_devices.specs.Memory.{written, room_of}
 use Rattle.dcm_devices.specs.declared.memory.MemIn.{MemIn}
@@ -22,11 +26,11 @@ use Rattle.dcm_files.specs.declared.opened.FileKind.TheVariants.{Regular, Other}
 use Rattle.dcm_files.specs.declared.opened.Opened.{Opened}
 use Rattle.dcm_files.specs.declared.opened.Unopened.{Unopened}
 use Rattle.dcm_files.specs.declared.opened.Unopened.TheVariants.{Input, Output, Part}
-use Rattle.dcm_files.specs.Devices.{OpensInput, standard, clash}
+use Rattle.dcm_files.specs.Devices.{was_read, standard}
 use Rattle.dcm_files.specs.Memory.{file_named, kind_of, GivesRoom, MakesFile, may_do}
 use Rattle.dcm_files.proofs.Parts.{part_is_text}
 use Rattle.dcm_files.specs.Part as part
-use Rattle.dcm_files.specs.Part.{part_of, is_short, was_read, may_replace, BadPath, FindsNoPart, FindsPart, IsPartCause, MakesPart, OpensPart, OpensStream, OpensWhole, OpensWholeDevices, RemovesPart, MovesPart, EndsPart}
+use Rattle.dcm_files.specs.Part.{part_of, is_short, read_earlier, unreplaced, BadPath, FindsNoPart, FindsPart, IsPartCause, MakesPart, OpensPart, OpensWhole, OpensWholeDevices, RemovesPart, MovesPart, EndsPart}
 use Rattle.arrayvec.specs.ArrayVec.{ArrayVec}
 use Rattle.dcm_deid.specs.declared.fate.Options.{Options}
 use Rattle.dcm_words.specs.Words.{Job, Plan, deidentify, with_days}
@@ -47,101 +51,56 @@ use Rattle.dcm_cli.specs.Answer.{Answer, Answers}
 use Rattle.dcm_cli.specs.Calls.{Runs}
 use Rattle.dcm_cli.specs.Change.{Change}
 use Rattle.dcm_cli.specs.InputCalls.{How, to_end, Allows, TellsHow}
+use Rattle.dcm_cli.specs.Remarks.{remark_lines}
 use Rattle.dcm_cli.specs.Run.{Ran, as_answered, not_read, not_written, not_flushed}
 use Rattle.dcm_cli.specs.ErrorLines.{Tries, Reports, unread_line, output_line}
 use Rattle.dcm_cli.specs.Status.{DONE}
 use Rattle.dcm_cli.specs.Program as program
 use Rattle.dcm_cli.specs.Program.{EndsOutput, WorksWhole, Deidentifies, MovesByKey, unopened_line, unopened_status}
-use Rattle.dcm_cli.specs.InMemory.{Outcome, bytes_at, number_at, is_one_file, key_of, key_number, has_path, has_part, is_apart, unwritten, without_key, without_days, not_opened, not_begun, ended, WholeComes, WholeAt, ByDays, DaysCome, FirstComes, KeyComes, DeidentifyComes, holds, removed, Fits, HasRoom, IsWritten, Leaves}
+use Rattle.dcm_cli.specs.InMemory.{Outcome, bytes_at, number_at, is_one_file, of_input, of_key, stays, key_of, key_number, has_part, without_part, unwritten, without_key, without_days, not_opened, not_begun, ended, WholeComes, WholeAt, ByDays, DaysCome, FirstComes, KeyComes, DeidentifyComes, holds, removed, Fits, HasRoom, IsWritten, Leaves}
 use Rattle.dcm_cli.proofs.Passes.Readers.{known}
 use Rattle.dcm_cli.proofs.Runs.InMemory.{memory_reader, memory_writer, memory_change, ran_left}
 use Rattle.dcm_cli.proofs.Runs.LeftMemory.{room_there, room_fits, LeftOf, leave_of}
-use Rattle.dcm_cli.proofs.Runs.Obeying.{append_nothing}
-use Rattle.dcm_cli.proofs.Runs.OpenedMemory.{no_both, not_so, is_other, is_text, is_no_text, other_chosen, either_is, IsInput, number_of, no_memory_fault, input_opened, one_clash, clash_at}
+use Rattle.dcm_cli.proofs.Runs.OpenedMemory.{no_both, is_other, other_chosen, IsInput, IsEarlier, number_of, no_one, input_opened, clash_at, why, why_stream, why_file, why_no_text, seen, IsMade, room_given, no_room, no_room_left, stream_made, NotOpened, by_input, by_output, DevicesAre}
 
 -- ---- choices
 
-either_true : (a b : Bool) → a ≡ true → (a || b) ≡ true
-either_true true b t = refl
-either_true false b t = absurd (no_both false refl t)
+or_nothing : (x : Option Unopened) → option_or x None ≡ x
+or_nothing None = refl
+or_nothing (Some u) = refl
 
-first_chosen : {T : Type 0} (a : Bool) (x y : T) → a ≡ true → (if a then x else y) ≡ x
-first_chosen true x y t = refl
-first_chosen false x y t = absurd (no_both false refl t)
+second_none : (x y : Option Unopened) → option_or x y ≡ None → y ≡ None
+second_none None y is = is
+second_none (Some u) y is = absurd (let no : Some u ≡ None = is in cc)
 
-both_true : (a b : Bool) → (a && b) ≡ true → (a ≡ true) × (b ≡ true)
-both_true true true e = (refl, refl)
-both_true true false e = absurd (no_both false refl e)
-both_true false b e = absurd (no_both false refl e)
-
-module _ (a b c : Bool) where
-  no_first : a ≡ false → ((a && b) && c) ≡ false
-  no_first f = rw (f) refl
-
-  no_second : b ≡ false → ((a && b) && c) ≡ false
-  no_second f = elim a as (λ x. ((x && b) && c) ≡ false) [ true ↦ rw (f) refl | false ↦ refl ]
-
-  no_last : c ≡ false → ((a && b) && c) ≡ false
-  no_last f = elim a as (λ x. ((x && b) && c) ≡ false) [ true ↦ elim b as (λ x. ((true && x) && c) ≡ false) [ true ↦ rw (f) refl | false ↦ refl ] | false ↦ refl ]
-
-  all_three : a ≡ true → b ≡ true → c ≡ true → ((a && b) && c) ≡ true
-  all_three x y z = rw (x, y, z) refl
+-- there is no reason not to do what has this test
+test_holds : (t : Bool) (x : Option Unopened) → (if t then x else Some Output) ≡ None → (t ≡ true) × (x ≡ None)
+test_holds true x is = (refl, is)
+test_holds false x is = absurd (let no : Some Output ≡ None = is in cc)
 
 -- ---- one file
 
--- a file that was read earlier, with this number
-abbrev pub IsEarlier : Option ℕ → Option FileKind → Type 0
-IsEarlier number None = number ≡ None
-IsEarlier number (Some kind) = IsInput number kind
-
-no_one : (a : Option ℕ) → is_one_file a None ≡ false
-no_one None = refl
-no_one (Some n) = refl
-
-some_clash : (one : Bool) → is_some (one_clash one) ≡ one
+some_clash : (one : Bool) → is_some (of_input one) ≡ one
 some_clash true = refl
 some_clash false = refl
-
-no_clash : (one : Bool) → is_none (one_clash one) ≡ not one
-no_clash true = refl
-no_clash false = refl
-
--- none is a stream
-stream_apart : (a : Option ℕ) (k : FileKind) → IsInput a k → clash k Other ≡ None
-stream_apart None k i = ap (λ (x : FileKind). clash x Other) i
-stream_apart (Some n) k i = ap (λ (x : FileKind). clash x Other) i.1
-
-stream_unread : (b : Option ℕ) (earlier : Option FileKind) → IsEarlier b earlier → was_read earlier Other ≡ false
-stream_unread b None i = refl
-stream_unread b (Some k) i = ap (λ (x : Option Unopened). is_some x) (stream_apart b k i)
 
 read_at : (b : Option ℕ) (earlier : Option FileKind) (m held : ℕ) → IsEarlier b earlier → was_read earlier (Regular 0 m held) ≡ is_one_file b (Some m)
 read_at b None m held i = sym (ap (λ (x : Option ℕ). is_one_file x (Some m)) i)
 read_at b (Some k) m held i = ap (λ (x : Option Unopened). is_some x) (clash_at b (Some m) k (Regular 0 m held) i (held, refl)) ∙ some_clash (is_one_file b (Some m))
 
--- what is there may be replaced where it is another file than both
-apart_at : (f : Option MemFile) (a b : Option ℕ) (input : FileKind) (earlier : Option FileKind) → IsInput a input → IsEarlier b earlier
-    → may_replace (option_map kind_of f) input earlier ≡ (not (is_one_file a (number_of f)) && not (is_one_file b (number_of f)))
-apart_at None a b input earlier i e = sym (ap (λ x. not x && not (is_one_file b None)) (no_one a) ∙ ap (λ x. not false && not x) (no_one b))
-apart_at (Some g) a b input earlier i e =
-    ap (λ (c : Option Unopened). is_none c && not (was_read earlier (kind_of g))) (clash_at a (Some g.number) input (kind_of g) i (length g.bytes.now, refl))
-    ∙ ap (λ x. x && not (was_read earlier (kind_of g))) (no_clash (is_one_file a (Some g.number)))
-    ∙ ap (λ x. not (is_one_file a (Some g.number)) && not x) (read_at b earlier g.number (length g.bytes.now) e)
+-- why what is there is not replaced
+module _ (a b : Option ℕ) (overwrites : Bool) (input : FileKind) (earlier : Option FileKind) (is_input : IsInput a input) (is_earlier : IsEarlier b earlier) where
+  abbrev by_file : Option MemFile → Option Unopened
+  by_file f = option_or (of_input (is_one_file a (number_of f))) (option_or (of_key (is_one_file b (number_of f))) (stays overwrites f))
+
+  unreplaced_seen : (f : Option MemFile) → unreplaced overwrites (option_map kind_of f) input earlier ≡ by_file f
+  unreplaced_seen None = sym (ap (λ x. option_or (of_input x) (option_or (of_key (is_one_file b None)) None)) (no_one a) ∙ ap (λ x. option_or (of_key x) None) (no_one b))
+  unreplaced_seen (Some g) =
+      ap (λ c. option_or c (option_or (read_earlier earlier (kind_of g)) (option_or (stays overwrites (Some g)) None))) (clash_at a (Some g.number) input (kind_of g) is_input (length g.bytes.now, refl))
+      ∙ ap (λ t. option_or (of_input (is_one_file a (Some g.number))) (option_or (of_key t) (option_or (stays overwrites (Some g)) None))) (read_at b earlier g.number (length g.bytes.now) is_earlier)
+      ∙ ap (λ x. option_or (of_input (is_one_file a (Some g.number))) (option_or (of_key (is_one_file b (Some g.number))) x)) (or_nothing (stays overwrites (Some g)))
 
 -- ---- an output that has its name only once it is whole
-
--- of an output that cannot be written for this reason, if it cannot
-abbrev IsWhole : (why : Option Unopened) → (room : Option MemOut) → Result (Opened Measured) Unopened → Type 0
-IsWhole why room (Ok d) = (why ≡ None) × (room ≡ Some d.device.out)
-IsWhole why room (Err u) = (why ≡ Some u) ⊎ ((why ≡ None) × (room ≡ None) × (u ≡ Output))
-
-room_given : (why : Option Unopened) (room : Option MemOut) (kind : FileKind) (d : Opened Measured) → why ≡ None → GivesRoom room kind (Ok d) → IsWhole why room (Ok d)
-room_given why (Some m) kind d is g = (is, ap Some (sym g.0))
-room_given why None kind d is g = absurd g
-
-no_room : (room : Option MemOut) (kind : FileKind) (x : Error) → GivesRoom room kind (Err x) → (room ≡ None) × (error_kind x ≡ kinds.StorageFull)
-no_room (Some m) kind x g = absurd g
-no_room None kind x g = (refl, g)
 
 same_error : (e x : Error) (r : Result (Opened Measured) Error) → r ≡ Err e → r ≡ Err x → e ≡ x
 same_error e x r a b = let both : Err e ≡ Err x = sym a ∙ b in cc
@@ -149,184 +108,117 @@ same_error e x r a b = let both : Err e ≡ Err x = sym a ∙ b in cc
 same_output : (d x : Opened Measured) (r : Result (Opened Measured) Error) → r ≡ Ok d → r ≡ Ok x → d ≡ x
 same_output d x r a b = let both : Ok d ≡ Ok x = sym a ∙ b in cc
 
--- the device of a room has its kind
-kind_made : (room : Option MemOut) (kind : FileKind) (d : Opened Measured) → GivesRoom room kind (Ok d) → d.kind ≡ kind
-kind_made (Some m) kind d g = g.1
-kind_made None kind d g = absurd g
+module _ (s : MemSystem) (output : List ℕ) (overwrites : Bool) (a b : Option ℕ) (input : FileKind) (earlier : Option FileKind) (is_input : IsInput a input) (is_earlier : IsEarlier b earlier) where
+  abbrev file : Option MemFile
+  file = file_named s.files.now output
 
-module _ (s : MemSystem) (output : List ℕ) (a b : Option ℕ) (input : FileKind) (earlier : Option FileKind) (is_input : IsInput a input) (is_earlier : IsEarlier b earlier) where
-  abbrev apart : Bool
-  apart = not (is_one_file a (number_at s output)) && not (is_one_file b (number_at s output))
+  abbrev by : (number : Option ℕ) → Option Unopened
+  by number = option_or (option_or (of_input (is_one_file a number)) (option_or (of_key (is_one_file b number)) (stays overwrites file))) (without_part s output)
 
-  abbrev why : Option Unopened
-  why =
-      if bytes_eq output standard then None
-      else if has_path output && apart then (if has_part s output then Some Part else None)
-      else Some Output
+  abbrev because : Option Unopened
+  because = why s output by
 
-  -- under a name
-  why_at : (x y : Bool) → output ≢ standard → (has_path output && apart) ≡ x → has_part s output ≡ y → why ≡ (if x then (if y then Some Part else None) else Some Output)
-  why_at x y other fits there =
-      other_chosen (bytes_eq output standard) None (if has_path output && apart then (if has_part s output then Some Part else None) else Some Output) (is_other output other)
-      ∙ ap (λ (v : Bool). if v then (if has_part s output then Some Part else None) else Some Output) fits
-      ∙ ap (λ (v : Bool). if x then (if v then Some Part else None) else Some Output) there
-
-  not_fit : output ≢ standard → (has_path output && apart) ≡ false → why ≡ Some Output
-  not_fit other never = why_at false (has_part s output) other never refl
-
-  apart_is : output ≢ standard → may_replace (option_map kind_of (file_named s.files.now output)) input earlier ≡ apart
-  apart_is other =
-      apart_at (file_named s.files.now output) a b input earlier is_input is_earlier
-      ∙ sym (ap (λ (n : Option ℕ). not (is_one_file a n) && not (is_one_file b n)) (other_chosen (bytes_eq output standard) None (number_of (file_named s.files.now output)) (is_other output other)))
-
-  -- what is seen there
-  seen : (there : Option FileKind) (had : MemSystem) → may_do.looks s output (Ok there) had → (there ≡ option_map kind_of (file_named s.files.now output)) × (had ≡ s)
-  seen there had looks = (let e : Ok there ≡ Ok (option_map kind_of (file_named s.files.now output)) = looks.0 in cc, looks.1)
-
-  replaced : (there : Option FileKind) (had : MemSystem) (x : Bool) → output ≢ standard → may_do.looks s output (Ok there) had → may_replace there input earlier ≡ x → apart ≡ x
-  replaced there had x other looks is = sym (apart_is other) ∙ ap (λ (t : Option FileKind). may_replace t input earlier) (sym (seen there had looks).0) ∙ is
+  -- the reason, by what was seen
+  because_seen : (there : Option FileKind) (had : MemSystem) (x : Option Unopened) → output ≢ standard → IsUtf8 output → may_do.looks s output (Ok there) had → unreplaced overwrites there input earlier ≡ x
+      → because ≡ option_or x (without_part s output)
+  because_seen there had x other text looks is =
+      why_file s output by other text
+      ∙ ap (λ r. option_or r (without_part s output)) (sym (unreplaced_seen a b overwrites input earlier is_input is_earlier file) ∙ ap (λ (t : Option FileKind). unreplaced overwrites t input earlier) (sym (seen s output there had looks).0) ∙ is)
 
   abbrev WholeMade : MemSystem → Result (Opened Measured) Unopened → Type 0
-  WholeMade after r = IsWhole why s.room r × (after.written ≡ s.written)
+  WholeMade after r = IsMade because s.room r × (after.written ≡ s.written)
 
   -- a part that is made where one may be
-  made_by : (f : Option MemFile) (r : Result (Opened Measured) Unopened) (after : MemSystem) → output ≢ standard → file_named s.files.now (part_of output) ≡ f
-      → (x : Result (Opened Measured) Error) → MakesFile s f x after → (has_path output && apart) ≡ true
+  made_by : (f : Option MemFile) (r : Result (Opened Measured) Unopened) (after : MemSystem) → file_named s.files.now (part_of output) ≡ f
+      → (x : Result (Opened Measured) Error) → MakesFile s f x after → because ≡ (if has_part s output then Some Part else None)
       → ((d : Opened Measured) → x ≡ Ok d → r ≡ Ok d) → ((e : Error) → x ≡ Err e → (u : Unopened) × IsPartCause (error_kind e) u × (r ≡ Err u)) → WholeMade after r
-  made_by None r after other none (Ok d) makes fits whole bad =
+  made_by None r after none (Ok d) makes is whole bad =
       subst (WholeMade after) (sym (whole d refl)) (
-        room_given why s.room (Regular 1 0 0) d (why_at true false other fits (ap (λ (f : Option MemFile). is_some f) none)) makes.0,
+        room_given because s.room (Regular 1 0 0) d (is ∙ other_chosen (has_part s output) (Some Part) None (ap (λ (f : Option MemFile). is_some f) none)) makes.0,
         ap (λ (z : MemSystem). z.written) makes.1,
       )
-  made_by None r after other none (Err e) makes fits whole bad =
+  made_by None r after none (Err e) makes is whole bad =
       let u = bad e refl in
       let full = no_room s.room (Regular 1 0 0) e makes.0 in
-      let cause = u.1.other (λ is. let no : kinds.StorageFull ≡ kinds.AlreadyExists = sym full.1 ∙ is in cc) in
+      let cause = u.1.other (λ k. let no : kinds.StorageFull ≡ kinds.AlreadyExists = sym full.1 ∙ k in cc) in
       subst (WholeMade after) (sym u.2) (
-        inr (why_at true false other fits (ap (λ (f : Option MemFile). is_some f) none), full.0, cause.other (no_memory_fault e kinds.StorageFull full.1 (λ e. cc))),
+        no_room_left because s.room (Regular 1 0 0) e u.0 (is ∙ other_chosen (has_part s output) (Some Part) None (ap (λ (f : Option MemFile). is_some f) none)) makes.0 cause,
         ap (λ (z : MemSystem). z.written) makes.1,
       )
-  made_by (Some f) r after other some (Ok d) makes fits whole bad = absurd makes.0
-  made_by (Some f) r after other some (Err e) makes fits whole bad =
+  made_by (Some f) r after some (Ok d) makes is whole bad = absurd makes.0
+  made_by (Some f) r after some (Err e) makes is whole bad =
       let u = bad e refl in
       subst (WholeMade after) (sym u.2) (
-        inl (why_at true true other fits (ap (λ (f : Option MemFile). is_some f) some) ∙ ap Some (sym (u.1.there makes.0))),
+        inl (is ∙ if_true (has_part s output) (Some Part) None (ap (λ (f : Option MemFile). is_some f) some) ∙ ap Some (sym (u.1.there makes.0))),
         ap (λ (z : MemSystem). z.written) makes.1,
       )
 
-  part_made : (r : Result (Opened Measured) Unopened) (had after : MemSystem) → output ≢ standard → FindsPart may_do output input earlier s had → MakesPart may_do (part_of output) had r after → WholeMade after r
+  -- where one may be made, its being there is the one reason left
+  may_be_made : (had : MemSystem) → output ≢ standard → FindsPart may_do output overwrites input earlier s had → because ≡ (if has_part s output then Some Part else None)
+  may_be_made had other found =
+      because_seen found.there had None other found.text found.looked found.replaces
+      ∙ if_true (is_short output) (if has_part s output then Some Part else None) (Some Output) found.fits
+
+  part_made : (r : Result (Opened Measured) Unopened) (had after : MemSystem) → output ≢ standard → FindsPart may_do output overwrites input earlier s had → MakesPart may_do (part_of output) had r after → WholeMade after r
   part_made r had after other found (part.no_part_text bad are same) = absurd (bad (part_is_text output found.text))
   part_made r had after other found (part.not_made e u text makes cause are) =
-      made_by (file_named s.files.now (part_of output)) r after other refl (Err e)
-      (subst (λ (z : MemSystem). MakesFile z (file_named z.files.now (part_of output)) (Err e) after) (seen found.there had found.looked).1 makes)
-      (all_three (is_utf8 output) (is_short output) apart (is_text output found.text) found.fits (replaced found.there had true other found.looked found.replaces))
+      made_by (file_named s.files.now (part_of output)) r after refl (Err e)
+      (subst (λ (z : MemSystem). MakesFile z (file_named z.files.now (part_of output)) (Err e) after) (seen s output found.there had found.looked).1 makes)
+      (may_be_made had other found)
       (λ d is. let no : Err e ≡ Ok d = is in cc) (λ x is. (u, subst (λ (y : Error). IsPartCause (error_kind y) u) (same_error e x (Err e) refl is) cause, are))
   part_made r had after other found (part.has_made d text makes are) =
-      made_by (file_named s.files.now (part_of output)) r after other refl (Ok d)
-      (subst (λ (z : MemSystem). MakesFile z (file_named z.files.now (part_of output)) (Ok d) after) (seen found.there had found.looked).1 makes)
-      (all_three (is_utf8 output) (is_short output) apart (is_text output found.text) found.fits (replaced found.there had true other found.looked found.replaces))
+      made_by (file_named s.files.now (part_of output)) r after refl (Ok d)
+      (subst (λ (z : MemSystem). MakesFile z (file_named z.files.now (part_of output)) (Ok d) after) (seen s output found.there had found.looked).1 makes)
+      (may_be_made had other found)
       (λ x is. are ∙ ap Ok (same_output d x (Ok d) refl is)) (λ x is. absurd (let no : Ok d ≡ Err x = is in cc))
 
-  abbrev Unmade : MemSystem → Error → Type 0
-  Unmade after x = (why ≡ Some Output) × (error_kind x ≢ kinds.OutOfMemory) × (after.written ≡ s.written)
-
-  none_found : (x : Error) (after : MemSystem) → output ≢ standard → FindsNoPart may_do output input earlier s x after → Unmade after x
-  none_found x after other (part.no_text bad kind same) = (
-    not_fit other (no_first (is_utf8 output) (is_short output) apart (is_no_text output bad)),
-    no_memory_fault x kinds.InvalidFilename kind (λ e. cc),
-    ap (λ (z : MemSystem). z.written) same,
-  )
-  none_found x after other (part.not_seen text looks) = absurd (let no : Err x ≡ Ok (option_map kind_of (file_named s.files.now output)) = looks.0 in cc)
-  none_found x after other (part.not_replaced there text looks is kind) = (
-    not_fit other (no_last (is_utf8 output) (is_short output) apart (replaced there after false other looks is)),
-    no_memory_fault x kinds.InvalidInput kind (λ e. cc),
-    ap (λ (z : MemSystem). z.written) looks.1,
-  )
-  none_found x after other (part.too_long there text looks is long kind) = (
-    not_fit other (no_second (is_utf8 output) (is_short output) apart long),
-    no_memory_fault x kinds.InvalidFilename kind (λ e. cc),
+  none_found : (u : Unopened) (after : MemSystem) → output ≢ standard → FindsNoPart may_do output overwrites input earlier s u after → (because ≡ Some u) × (after.written ≡ s.written)
+  none_found u after other (part.no_output_text bad is same) = (why_no_text s output by other bad ∙ ap Some (sym is), ap (λ (z : MemSystem). z.written) same)
+  none_found u after other (part.not_seen x text looks cause) = absurd (let no : Err x ≡ Ok (option_map kind_of file) = looks.0 in cc)
+  none_found u after other (part.not_replaced there text looks is) = (because_seen there after (Some u) other text looks is, ap (λ (z : MemSystem). z.written) looks.1)
+  none_found u after other (part.output_too_long there text looks is long are) = (
+    because_seen there after None other text looks is ∙ other_chosen (is_short output) (if has_part s output then Some Part else None) (Some Output) long ∙ ap Some (sym are),
     ap (λ (z : MemSystem). z.written) looks.1,
   )
 
-  part_opened : (r : Result (Opened Measured) Unopened) (after : MemSystem) → output ≢ standard → OpensPart may_do output input earlier s r after → WholeMade after r
-  part_opened r after other (part.not_found x u finds cause are) =
-      let m = none_found x after other finds in
-      subst (WholeMade after) (sym are) (inl (m.0 ∙ ap Some (sym (cause.other m.1))), m.2)
+  part_opened : (r : Result (Opened Measured) Unopened) (after : MemSystem) → output ≢ standard → OpensPart may_do output overwrites input earlier s r after → WholeMade after r
+  part_opened r after other (part.not_found u finds are) =
+      let m = none_found u after other finds in
+      subst (WholeMade after) (sym are) (inl m.0, m.1)
   part_opened r after other (part.found had finds makes) = part_made r had after other finds makes
 
-  why_stream : output ≡ standard → why ≡ None
-  why_stream is = first_chosen (bytes_eq output standard) None (if has_path output && apart then (if has_part s output then Some Part else None) else Some Output) ((bytes_eq-Decides output standard).1 is)
-
-  stream_made : (r : Result (Opened Measured) Unopened) (after : MemSystem) → output ≡ standard → OpensStream may_do input earlier s r after → WholeMade after r
-  stream_made r after is (part.no_stdout x u gave cause are) =
-      let full = no_room s.room Other x gave.0 in
-      subst (WholeMade after) (sym are)
-      (inr (why_stream is, full.0, cause.other (no_memory_fault x kinds.StorageFull full.1 (λ e. cc))), ap (λ (z : MemSystem). z.written) gave.1)
-  stream_made r after is (part.was_read_earlier o had gave was closes are) =
-      absurd (no_both (was_read earlier o.kind) (ap (was_read earlier) (kind_made s.room Other o gave.0) ∙ stream_unread b earlier is_earlier) was)
-  stream_made r after is (part.clashed o cause had gave unread was closes are) =
-      absurd (let no : None ≡ Some cause = sym (ap (clash input) (kind_made s.room Other o gave.0) ∙ stream_apart a input is_input) ∙ was in cc)
-  stream_made r after is (part.opened o gave unread free are) =
-      subst (WholeMade after) (sym are) (room_given why s.room Other o (why_stream is) gave.0, ap (λ (z : MemSystem). z.written) gave.1)
-
-  whole_made : (r : Result (Opened Measured) Unopened) (after : MemSystem) → OpensWhole may_do output input earlier s r after → WholeMade after r
-  whole_made r after (part.stream is opens) = stream_made r after is opens
+  whole_made : (r : Result (Opened Measured) Unopened) (after : MemSystem) → OpensWhole may_do output overwrites input earlier s r after → WholeMade after r
+  whole_made r after (part.stream is opens) = stream_made s because a b input earlier is_input is_earlier (why_stream s output by is) r after opens
   whole_made r after (part.part other opens) = part_opened r after other opens
 
 -- one that can be written has a path, where it is no stream
-path_fits : (x y : Bool) → (if x then (if y then Some Part else None) else Some Output) ≡ None → x ≡ true
-path_fits true y is = refl
-path_fits false y is = absurd (let no : Some Output ≡ None = is in cc)
-
-path_of : (s : MemSystem) (output : List ℕ) (x : Bool) → (if bytes_eq output standard then None else if has_path output && x then (if has_part s output then Some Part else None) else Some Output) ≡ None → output ≢ standard
+path_of : (s : MemSystem) (output : List ℕ) (x : Option Unopened)
+    → (if bytes_eq output standard then None else if is_utf8 output then option_or x (without_part s output) else Some Output) ≡ None → output ≢ standard
     → IsUtf8 output × (is_short output ≡ true)
 path_of s output x is other =
-    let fits = path_fits (has_path output && x) (has_part s output) (sym (other_chosen (bytes_eq output standard) None (if has_path output && x then (if has_part s output then Some Part else None) else Some Output) (is_other output other)) ∙ is) in
-    let y = both_true (is_utf8 output) (is_short output) (both_true (has_path output) x fits).0 in
-    (IsUtf8-from_is_utf8 output y.0, y.1)
+    let t = test_holds (is_utf8 output) (option_or x (without_part s output)) (sym (other_chosen (bytes_eq output standard) None (if is_utf8 output then option_or x (without_part s output) else Some Output) (is_other output other)) ∙ is) in
+    (IsUtf8-from_is_utf8 output t.0, (test_holds (is_short output) (if has_part s output then Some Part else None) (second_none x (without_part s output) t.1)).0)
 
 -- ---- both devices
-
--- why they were not opened, and the output that was closed before
-data NotOpened (bytes : Option (List ℕ)) (why : Option Unopened) (room before : Option MemOut) (u : Unopened) (after : Option MemOut) : Type 0 where
-  by_input : bytes ≡ None → u ≡ Input → after ≡ before → NotOpened bytes why room before u after
-  by_output : (bs : List ℕ) → bytes ≡ Some bs → (why ≡ Some u) ⊎ ((why ≡ None) × (room ≡ None) × (u ≡ Output)) → after ≡ before → NotOpened bytes why room before u after
-
-record BothOpened (bytes : Option (List ℕ)) (why : Option Unopened) (room : Option MemOut) (i : Opened MemIn) (o : Opened Measured) : Type 0 where
-  bytes_are : bytes ≡ Some i.device.rest.now
-  can_is : why ≡ None
-  room_is : room ≡ Some o.device.out
-
-abbrev DevicesAre : Option (List ℕ) → (why : Option Unopened) → (room before : Option MemOut) → Result (Opened MemIn × Opened Measured) Unopened → (after : Option MemOut) → Type 0
-DevicesAre bytes why room before (Ok x) after = BothOpened bytes why room x.0 x.1
-DevicesAre bytes why room before (Err u) after = NotOpened bytes why room before u after
 
 module _ (s : MemSystem) (p : Plan) (earlier : Option FileKind) (is_earlier : IsEarlier (key_number s p.key) earlier) where
   abbrev Devices : MemSystem → Result (Opened MemIn × Opened Measured) Unopened → Type 0
   Devices after r = DevicesAre (bytes_at s p.input) (unwritten s p) s.room s.written r after.written
 
-  devices_are : (r : Result (Opened MemIn × Opened Measured) Unopened) (after : MemSystem) → OpensWholeDevices may_do p.input p.output earlier s r after → Devices after r
+  devices_are : (r : Result (Opened MemIn × Opened Measured) Unopened) (after : MemSystem) → OpensWholeDevices may_do p.input p.output p.overwrites earlier s r after → Devices after r
   devices_are r after (part.no_input x u opens cause are) =
       let i = input_opened s p.input (Err x) after opens in
       subst (Devices after) (sym are) (by_input i.0.0 (cause.other i.0.1) (ap (λ (z : MemSystem). z.written) i.1))
   devices_are r after (part.no_output d u had tried opens whole released are) =
       let i = input_opened s p.input (Ok d) had opens in
-      let o = whole_made s p.output (number_at s p.input) (key_number s p.key) d.kind earlier i.0.1 is_earlier (Err u) tried (subst (λ (z : MemSystem). OpensWhole may_do p.output d.kind earlier z (Err u) tried) i.1 whole) in
+      let o = whole_made s p.output p.overwrites (number_at s p.input) (key_number s p.key) d.kind earlier i.0.1 is_earlier (Err u) tried (subst (λ (z : MemSystem). OpensWhole may_do p.output p.overwrites d.kind earlier z (Err u) tried) i.1 whole) in
       subst (Devices after) (sym are) (by_output d.device.rest.now i.0.0 o.0 (ap (λ (z : MemSystem). z.written) released ∙ o.1))
   devices_are r after (part.both d f had opens whole are) =
       let i = input_opened s p.input (Ok d) had opens in
-      let o = whole_made s p.output (number_at s p.input) (key_number s p.key) d.kind earlier i.0.1 is_earlier (Ok f) after (subst (λ (z : MemSystem). OpensWhole may_do p.output d.kind earlier z (Ok f) after) i.1 whole) in
+      let o = whole_made s p.output p.overwrites (number_at s p.input) (key_number s p.key) d.kind earlier i.0.1 is_earlier (Ok f) after (subst (λ (z : MemSystem). OpensWhole may_do p.output p.overwrites d.kind earlier z (Ok f) after) i.1 whole) in
       subst (Devices after) (sym are) (record { bytes_are = i.0.0; can_is = o.0.0; room_is = o.0.1 })
 
 -- ---- the end of an output
-
-either_second : (a b : Bool) → b ≡ true → (a || b) ≡ true
-either_second true b t = refl
-either_second false b t = t
-
-either_first : (a b : Bool) → b ≡ false → (a || b) ≡ a
-either_first true b f = refl
-either_first false b f = f
 
 is_zero : (n : ℕ) → (n == 0) ≡ true → n ≡ 0
 is_zero n e = grind (arith, nat_tests, e)
@@ -363,7 +255,7 @@ module _ (output : List ℕ) (had after : MemSystem) (path : output ≢ standard
   has_no_name x (part.not_moved y removing tried other whole moves removes are) = not_moved y tried other moves
 
   is_removed : (r : Result (Unit {0}) Error) → EndsPart may_do output false had r after → after.written ≡ (if bytes_eq output standard then had.written else None)
-  is_removed r (part.stream is are same) = ap (λ (z : MemSystem). z.written) same ∙ sym (first_chosen (bytes_eq output standard) had.written None ((bytes_eq-Decides output standard).1 is))
+  is_removed r (part.stream is are same) = ap (λ (z : MemSystem). z.written) same ∙ sym (if_true (bytes_eq output standard) had.written None ((bytes_eq-Decides output standard).1 is))
   is_removed r (part.removed other not_whole removes) = part_removed r other removes ∙ sym (other_chosen (bytes_eq output standard) had.written None (is_other output other))
   is_removed r (part.moved other whole moves are) = absurd (no_both false refl whole)
   is_removed r (part.not_moved x removing tried other whole moves removes are) = absurd (no_both false refl whole)
@@ -378,25 +270,21 @@ module _ (output : List ℕ) (had after : MemSystem) (path : output ≢ standard
   ended_so ran status of_end (program.named is ends line was) = record {
     status_is = was ∙ sym is;
     nothing = line;
-    left = has_name ends ∙ sym (first_chosen (bytes_eq output standard || ran == DONE) had.written None (either_second (bytes_eq output standard) (ran == DONE) (ap (λ (n : ℕ). n == DONE) is)));
+    left = has_name ends ∙ sym (if_true (bytes_eq output standard || ran == DONE) had.written None (or_second (bytes_eq output standard) (ran == DONE) (ap (λ (n : ℕ). n == DONE) is)));
   }
   ended_so ran status of_end (program.not_named x is ends line was) = absurd (has_no_name x ends)
   ended_so ran status of_end (program.removed r not_done ends line was) = record {
     status_is = was;
     nothing = line;
     left = is_removed r ends
-        ∙ ap (λ (b : Bool). if b then had.written else None) (sym (either_first (bytes_eq output standard) (ran == DONE) (not_so (ran == DONE) (λ e. not_done (is_zero ran e)))));
+        ∙ ap (λ (b : Bool). if b then had.written else None) (sym (or_before_false (bytes_eq output standard) (ran == DONE) (is_false (ran == DONE) (λ e. not_done (is_zero ran e)))));
   }
 
 -- ---- the lines
 
-no_front : (front : List ℕ) (next : ℕ) (rest : List ℕ) → [] ≡ front ++ (next ∷ rest) → ⊥
-no_front [] next rest e = cc
-no_front (x ∷ front) next rest e = cc
-
 -- where nothing is reported, a writer stays
 nothing_put : (c : Change) → Reports c [] → (c.after ≡ c.before) × (c.failed_after ≡ c.failed_before)
-nothing_put c (inl x) = (x.0 ∙ append_nothing c.before, x.1)
+nothing_put c (inl x) = (x.0 ∙ known_nothing c.before, x.1)
 nothing_put c (inr x) = absurd (no_front x.0.front x.0.next x.0.rest x.0.whole)
 
 -- what a run reported of one change it reported of another with the same bytes
@@ -410,7 +298,7 @@ module _ (c d : Change) (begins : c.before ≡ d.before) (ends : c.after ≡ d.a
 
   ran_as : (job : Job) (given : List ℕ) (how : How) (unread : Bool) (output : Change) (status : ℕ) → Ran job given how unread output c status → Ran job given how unread output d status
   ran_as job given how unread output status (as_answered a all read fine took lines was) = as_answered a all read fine took (reports_as a.lines lines) was
-  ran_as job given how unread output status (not_read out bad sure took lines was) = not_read out bad sure took (reports_as (unread_line (length given)) lines) was
+  ran_as job given how unread output status (not_read out remarks bad sure told took lines was) = not_read out remarks bad sure told took (reports_as (remark_lines remarks ++ unread_line (length given)) lines) was
   ran_as job given how unread output status (not_written each read bad lines was) = not_written each read bad (reports_as output_line lines) was
   ran_as job given how unread output status (not_flushed a all read bad none took lines was) = not_flushed a all read bad none took (reports_as output_line lines) was
 
@@ -446,7 +334,7 @@ wrong_size file e = other_chosen (nat_le 16 (length file) && nat_le (length file
 all_given : (given rest file : List ℕ) → file ≡ given ++ rest → rest ≡ [] → file ≡ given
 all_given given rest file is none = is ∙ ap (λ (x : List ℕ). given ++ x) none ∙ append-nil given
 
-nothing_follows : (how : How) (rest : List ℕ) → how ≡ to_end → Allows how rest → rest ≡ []
+pub nothing_follows : (how : How) (rest : List ℕ) → how ≡ to_end → Allows how rest → rest ≡ []
 nothing_follows how rest is ok = subst (λ (h : How). Allows h rest) is ok
 
 module _ (how : How) (given rest file : List ℕ) (ok : Allows how rest) (is : file ≡ given ++ rest) where
@@ -456,16 +344,16 @@ module _ (how : How) (given rest file : List ℕ) (ok : Allows how rest) (is : f
   no_key_is causes.Unread tells h = absurd (let no : false ≡ true = subst (λ (x : How). TellsHow false false x) h tells in cc)
   no_key_is causes.Size tells (inl h) =
       let same = ap length (all_given given rest file is (nothing_follows how rest h.0 ok)) in
-      wrong_size file (not_so (nat_le 16 (length file) && nat_le (length file) 4096) (λ e. small (length file) (omega (arith, same, h.1)) (both_true (nat_le 16 (length file)) (nat_le (length file) 4096) e).0))
+      wrong_size file (is_false (nat_le 16 (length file) && nat_le (length file) 4096) (λ e. small (length file) (omega (arith, same, h.1)) (and_parts (nat_le 16 (length file)) (nat_le (length file) 4096) e).0))
   no_key_is causes.Size tells (inr h) =
       let all = ap length is ∙ length-append given rest in
-      wrong_size file (not_so (nat_le 16 (length file) && nat_le (length file) 4096) (λ e. great (length file) (omega (arith, all, h.1)) (both_true (nat_le 16 (length file)) (nat_le (length file) 4096) e).1))
+      wrong_size file (is_false (nat_le 16 (length file) && nat_le (length file) 4096) (λ e. great (length file) (omega (arith, all, h.1)) (and_parts (nat_le 16 (length file)) (nat_le (length file) 4096) e).1))
 
   key_is : (key : ArrayVec ℕ) → KeyIs given how (Ok key) → key_of (Some file) ≡ Ok key.items
   key_is key h =
       let same = all_given given rest file is (nothing_follows how rest h.0 ok) in
       let size = ap length same in
-      first_chosen (nat_le 16 (length file) && nat_le (length file) 4096) (Ok file) (Err causes.Size)
+      if_true (nat_le 16 (length file) && nat_le (length file) 4096) (Ok file) (Err causes.Size)
       (rw (fits_least (length file) (omega (arith, size, h.2)), fits_most (length file) (omega (arith, size, h.3))) refl)
       ∙ ap Ok (same ∙ sym h.1)
 
@@ -564,27 +452,28 @@ module _ (s new : MemSystem) (errors new_errors : MemOut) (status : ℕ) (p : Pl
 
     refused_left : (u : Unopened) → NotOpened (bytes_at s p.input) (unwritten s p) s.room s.written u new.written → Reports e (unopened_line u) → status ≡ unopened_status u → Left o
     refused_left u (by_input none is after) line was =
-        left_as (not_opened false) (comes_at None (unwritten s p) none refl)
-        (leave_of s new errors new_errors status (not_opened false) after (subst (λ (v : Unopened). Reports e (unopened_line v)) is line) (was ∙ ap unopened_status is))
+        left_as (not_opened) (comes_at None (unwritten s p) none refl)
+        (leave_of s new errors new_errors status (not_opened) after (subst (λ (v : Unopened). Reports e (unopened_line v)) is line) (was ∙ ap unopened_status is))
     refused_left u (by_output bs bytes (inl is) after) line was =
         left_as (not_begun u) (comes_at (Some bs) (Some u) bytes is) (leave_of s new errors new_errors status (not_begun u) after line was)
     refused_left u (by_output bs bytes (inr none) after) line was = absurd (some_room bs (comes_at (Some bs) None bytes none.0) none.1)
 
     pub whole_left : (earlier : Option FileKind) → IsEarlier (key_number s p.key) earlier → WorksWhole may_do memory_reader memory_writer p job earlier e s status new → Left o
     whole_left earlier is_earlier (program.none_opened u opens line was) = refused_left u (devices_are s p earlier is_earlier (Err u) new opens) line was
-    whole_left earlier is_earlier (program.has_ended i d had has_run ran of_run of_end opens runs ends follows) =
+    whole_left earlier is_earlier (program.has_ended i d had has_run ran of_run of_end opens (program.closed_with_loss input output ending x f back told was) ends follows) = absurd (let no = back.closed.0 in cc)
+    whole_left earlier is_earlier (program.has_ended i d had has_run ran of_run of_end opens (program.closed_well input output ran_so back) ends follows) =
         let x = devices_are s p earlier is_earlier (Ok (i, d)) had opens in
         let c = comes_at (Some i.device.rest.now) None x.bytes_are x.can_is in
         let a = c.0 in
         let fits = room_fits a.output s.room d.device.out x.room_is (fits_by (bytes_eq p.output standard || a.status == DONE) a.output s.room (subst (λ (q : Outcome). HasRoom q.output s.room) c.2 room)) in
-        let end = ended_so p.output has_run new (path_of s p.output (is_apart s p) x.can_is) ran status of_end ends in
+        let end = ended_so p.output has_run new (path_of s p.output (option_or (of_input (is_one_file (number_at s p.input) (number_at s p.output))) (option_or (of_key (is_one_file (key_number s p.key) (number_at s p.output))) (stays p.overwrites (file_named s.files.now p.output)))) x.can_is) ran status of_end ends in
         let kept = nothing_put of_end end.nothing in
-        let run = runs_as of_run e follows.begins.0 (sym (follows.ends.0 ∙ kept.0 ∙ follows.meets.0)) follows.begins.1 (sym (follows.ends.1 ∙ kept.1 ∙ follows.meets.1)) job i.device runs.input d.device runs.output ran runs.run in
-        let l = ran_left job i.device d.device runs.input runs.output errors new_errors ran run fits.0 a c.1 fits.1 in
-        let closed = ap (λ (z : MemSystem). z.written) (runs.back.released ∙ runs.back.closed) in
+        let run = runs_as of_run e follows.begins.0 (sym (follows.ends.0 ∙ kept.0 ∙ follows.meets.0)) follows.begins.1 (sym (follows.ends.1 ∙ kept.1 ∙ follows.meets.1)) job i.device input d.device output ran ran_so in
+        let l = ran_left job i.device d.device input output errors new_errors ran run fits.0 a c.1 fits.1 in
+        let closed = ap (λ (z : MemSystem). z.written) (back.released ∙ back.closed.1) in
         left_as (ended (bytes_eq p.output standard) a) c.2
         (record {
-          output_is = left_by (bytes_eq p.output standard || a.status == DONE) s new.written d.device.out runs.output.out a.output x.room_is l.output
+          output_is = left_by (bytes_eq p.output standard || a.status == DONE) s new.written d.device.out output.out a.output x.room_is l.output
               (end.left ∙ ap (λ (n : ℕ). if bytes_eq p.output standard || n == DONE then has_run.written else None) l.status_is ∙ ap (λ (w : Option MemOut). if bytes_eq p.output standard || a.status == DONE then w else None) closed);
           lines_are = λ most. l.lines most;
           status_is = end.status_is ∙ l.status_is;

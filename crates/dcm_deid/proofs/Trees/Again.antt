@@ -132,6 +132,6 @@ pub nothing_flows : (options : Options) (key : List ℕ) (depth : Depth) (d e : 
     ≡ deidentified_set (moving options e) (made_new (moving options e) key) depth g
 nothing_flows options key depth d e f g alike =
     all_of_left (moving options d) key depth f
-    ∙ ap (left_in (moving options d) key depth) alike
+    ∙ ap (left_in (moving options d) key depth) alike.same_left
     ∙ by_same_fates (fate_as (moving options d)) (fate_as (moving options e)) (written key) (same_fates options d e) depth (struck (moving options e) depth g)
     ∙ sym (all_of_left (moving options e) key depth g)

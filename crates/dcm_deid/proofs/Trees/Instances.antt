@@ -24,7 +24,7 @@ use Rattle.dcm_base.specs.declared.vr.Vr.TheVariants.{UI}
 use Rattle.dcm_deid.specs.MadeNew.{left_of, made_new}
 use Rattle.dcm_deid.specs.Fate.{actions, fate_as, moved_if}
 use Rattle.dcm_deid.specs.Deidentify.{value_by, leaf_by, sequence_by, fragments_by, items_by_fate, deidentified_set}
-use Rattle.dcm_deid.specs.Meta.{meta_fate, meta_renewing, value_by_fate}
+use Rattle.dcm_deid.specs.Meta.{implementation, meta_fate, meta_renewing, value_by_fate}
 use Rattle.dcm_deid.specs.Saying.{put_in, said, tag_at, whole_of}
 use Rattle.dcm_deid.specs.Uids.{unpadded, instance_by, HeadsBy, NewByKey, SetsBy, UidsAgree}
 use Rattle.dcm_deid.proofs.Trees.Said.{of_whole, set_with, set_with_all}
@@ -35,7 +35,7 @@ pub new_by_key : NewByKey
 unfolding new_value
 new_by_key key v w same = ap (replaced key) same
 
-text_pads : (b : Bool) → is_pad (if b then 32 else 0) ≡ true
+pub text_pads : (b : Bool) → is_pad (if b then 32 else 0) ≡ true
 text_pads true = refl
 text_pads false = refl
 
@@ -68,9 +68,9 @@ module _ (options : Options) (key : List ℕ) where
       ap (λ (t : Tag). unpadded instance (leaf_if (value_by_fate (meta_fate options t) key value) tag vr more)) (tag_is tag instance e) ∙ renamed_or_not options.uids key value tag vr more e
   head_leaf tag vr value rest more false e h = other_leaf (meta_renewing options key tag vr value) tag vr more e ∙ h
 
-  head_by : (elements : Trees) → unpadded instance (renewed (meta_renewing options key) elements) ≡ option_map (instance_by options key) (unpadded instance elements)
+  head_by : (elements : Trees) → unpadded instance (renewed (meta_renewing options key) implementation elements) ≡ option_map (instance_by options key) (unpadded instance elements)
   head_by no_tree = refl
-  head_by (leaf tag vr value rest) = head_leaf tag vr value rest (renewed (meta_renewing options key) rest) (same_tag tag instance) refl (head_by rest)
+  head_by (leaf tag vr value rest) = head_leaf tag vr value rest (renewed (meta_renewing options key) implementation rest) (same_tag tag instance) refl (head_by rest)
   head_by (sequence tag vr declared items rest) = head_by rest
   head_by (fragments tag vr parts rest) = head_by rest
 

@@ -1,9 +1,10 @@
 -- Data sets whose elements pair off have the same left.
 use Rattle.std.proofs.Common.{◌≡◌, ◌∙◌, ap, sym, refl, ℕ, List, []}
+use Rattle.dcm_base.proofs.Conversions.NormalForm.{items_alike}
 use Rattle.dcm_base.specs.declared.tag.Tag.{Tag}
 use Rattle.dcm_base.specs.declared.vr.Vr.{Vr}
 use Rattle.dcm_base.specs.declared.length.Length.TheVariants.{Undefined}
-use Rattle.dcm_base.specs.Tree.Tree.{Trees, leaf, sequence, Items, no_item, item}
+use Rattle.dcm_base.specs.Tree.Tree.{Trees, leaf, sequence, Items, no_item}
 use Rattle.dcm_deid.specs.declared.fate.Fate.{Fate}
 use Rattle.dcm_deid.specs.declared.fate.Fate.TheVariants.{Remove, Empty, Replace, Anew, Keep}
 use Rattle.dcm_deid.specs.declared.fate.Depth.{Depth}
@@ -30,7 +31,7 @@ two_leaves : (one other : Renaming) (fate : Fate) (tag : Tag) (vr : Vr) (v w : L
 two_leaves one other Remove tag vr v w f g s h = h
 two_leaves one other Empty tag vr v w f g s h = ap (leaf tag vr []) h
 two_leaves one other Replace tag vr v w f g s h = ap (leaf tag vr []) h
-two_leaves one other (Anew made) tag vr v w f g s h = rw (s, h) refl
+two_leaves one other (Anew made) tag vr v w f g s h = rw (s.0, h) refl
 two_leaves one other Keep tag vr v w f g s h = rw (s, h) refl
 
 two_emptied : (fate : Fate) (tag : Tag) (vr : Vr) (items others : Items) (f g : Trees) → IsNotKept fate → f ≡ g → sequence_by fate tag vr items f ≡ sequence_by fate tag vr others g
@@ -42,9 +43,6 @@ two_emptied Keep tag vr items others f g n h = absurd (n)
 
 two_kept : (fate : Fate) (tag : Tag) (vr : Vr) (items others : Items) (f g : Trees) → items ≡ others → f ≡ g → sequence_by fate tag vr items f ≡ sequence_by fate tag vr others g
 two_kept fate tag vr items others f g i h = ap (λ (x : Items). sequence_by fate tag vr x f) i ∙ ap (sequence_by fate tag vr others) h
-
-two_items : (a b : Trees) (x y : Items) → a ≡ b → x ≡ y → item Undefined a x ≡ item Undefined b y
-two_items a b x y h i = ap (λ (t : Trees). item Undefined t x) h ∙ ap (item Undefined b) i
 
 mutual
   pub same_left : (one other : Renaming) (fates : Fates) (depth : Depth) (f g : Trees) → Pairs one other fates depth f g → by_fate fates (value_left one) depth f ≡ by_fate fates (value_left other) depth g
@@ -60,4 +58,4 @@ mutual
 
   pub same_items : (one other : Renaming) (fates : Fates) (items others : Items) → PairItems one other fates items others → items_by_fate fates (value_left one) items ≡ items_by_fate fates (value_left other) others
   same_items _ _ _ _ _ (no_items one other fates) = refl
-  same_items _ _ _ _ _ (items_pair one other fates m n f g rest more p i) = two_items _ _ _ _ (same_left one other fates Inside f g p) (same_items one other fates rest more i)
+  same_items _ _ _ _ _ (items_pair one other fates m n f g rest more p i) = items_alike _ _ _ _ (same_left one other fates Inside f g p) (same_items one other fates rest more i)

@@ -1,6 +1,7 @@
 -- The elements that say what was done.
 use Rattle.std.proofs.Common.{◌≡◌, ◌∙◌, ap, sym, refl, List, [], ◌∷◌, Bool, true, false, Option, Some, None, ℕ, ℤ}
 use Rattle.std.specs.Prelude.{◌||◌, not, if◌then◌else◌}
+use Rattle.dcm_lemmas.proofs.Truth.{or_true}
 use Rattle.dcm_base.specs.declared.tag.Tag.{Tag}
 use Rattle.dcm_base.specs.declared.syntax.Syntax.{Syntax}
 use Rattle.dcm_base.specs.Tables.Tag.{below}
@@ -26,10 +27,6 @@ set_with new set = if has new.0 set then set else put_in new.0 new.1 set
 abbrev pub set_with_all : List (Tag × Trees) → Trees → Trees
 set_with_all [] set = set
 set_with_all (new ∷ news) set = set_with_all news (set_with new set)
-
-or_true : (b : Bool) → (b || true) ≡ true
-or_true true = refl
-or_true false = refl
 
 passed : (tag : Tag) (reached : Option Tag) → is_passed tag reached true ≡ true
 passed tag None = refl
@@ -62,10 +59,6 @@ of_whole options new reached set =
     ∙ all_whole (said options) reached (deidentified_set options new Outermost set)
 
 -- ---- nothing else is put
-
-dropped : {A : Type 0} (b : Bool) (x y : A) → b ≡ true → (if b then x else y) ≡ x
-dropped true x y e = refl
-dropped false x y e = absurd (cc)
 
 either_unsaid : (b : Bool) (x y set : Trees) → unsaid x ≡ unsaid set → unsaid y ≡ unsaid set → unsaid (if b then x else y) ≡ unsaid set
 either_unsaid true x y set h k = h

@@ -18,7 +18,7 @@ use Rattle.dcm_base.specs.Tree.Value.{evened}
 use Rattle.dcm_base.proofs.DumpsBack.Numbers.{Bytes-append}
 use Rattle.dcm_base.proofs.DumpsBack.Texts.{Bytes}
 use Rattle.dcm_editor.proofs.ReadBack.BytesRead.{EachBytes, HoldBytes, HoldsBytes}
-use Rattle.dcm_editor_laws.proofs.ReadBack.BytesKept.{low_bytes, set_written}
+use Rattle.dcm_editor_laws.proofs.ReadBack.BytesKept.{low_bytes, set_written, if_bytes, if_holds}
 use Rattle.dcm_edits.specs.Edit.{has}
 use Rattle.dcm_deid.specs.declared.fate.Fate.{Fate}
 use Rattle.dcm_deid.specs.declared.fate.Fate.TheVariants.{Remove, Empty, Replace, Anew, Keep}
@@ -33,15 +33,11 @@ use Rattle.dcm_deid.specs.declared.meta.MetaFate.{MetaFate}
 use Rattle.dcm_deid.specs.declared.meta.MetaFate.TheVariants.{Remove as meta_goes, Keep as meta_stays, Uid as meta_new}
 use Rattle.dcm_deid.specs.Fate.{are_left, fate_as}
 use Rattle.dcm_deid.specs.Deidentify.{Renaming, dummy, value_by, leaf_by, sequence_by, fragments_by, deidentified_set, items_by_fate}
-use Rattle.dcm_deid.specs.Meta.{meta_fate, meta_renewing, stays, value_by_fate}
+use Rattle.dcm_deid.specs.Meta.{implementation, meta_fate, meta_renewing, stays, value_by_fate}
 use Rattle.dcm_deid.specs.Saying.{code_if, dates_became, dates_code, dates_meaning, methods, put_in, said}
 use Rattle.dcm_deid.proofs.Trees.Said.{set_with, set_with_all}
 
 -- ---- values
-
-if_bytes : (c : Bool) (x y : List ℕ) → Bytes x → Bytes y → Bytes (if c then x else y)
-if_bytes true x y h k = h
-if_bytes false x y h k = k
 
 -- by a test of each
 all_bytes : (v : List ℕ) → list_all (λ b. nat_lt b 256) v ≡ true → Bytes v
@@ -70,10 +66,6 @@ unpadded_bytes [] h = tt
 unpadded_bytes (b ∷ v) h = before_bytes b (without_pads v) h.0 (unpadded_bytes v h.1)
 
 -- ---- data sets
-
-if_holds : (c : Bool) (x y : Trees) → HoldsBytes x → HoldsBytes y → HoldsBytes (if c then x else y)
-if_holds true x y h k = h
-if_holds false x y h k = k
 
 -- what is made is bytes
 abbrev pub MakesBytes : Options → (new : Renaming) → Type 0
@@ -188,9 +180,9 @@ module _ (options : Options) (key : List ℕ) (given : options.uids ≡ true) wh
   one_renewed meta_stays t vr v rest other h k = (h, k)
   one_renewed meta_new t vr v rest other h k = absurd (other refl)
 
-  renewed_holds : (x : Trees) → HoldsBytes x → HoldsBytes (renewed (meta_renewing options key) x)
-  renewed_holds no_tree h = tt
-  renewed_holds (leaf t vr v rest) h = one_renewed (meta_fate options t) t vr v (renewed (meta_renewing options key) rest) (kept_or (stays t) (is_tag 2 3 t) options.uids given) h.0 (renewed_holds rest h.1)
+  renewed_holds : (x : Trees) → HoldsBytes x → HoldsBytes (renewed (meta_renewing options key) implementation x)
+  renewed_holds no_tree h = (all_bytes (codes "2.25.313428391727201999114611669686557106709") refl, (all_bytes (codes "DCMTOOLS") refl, tt))
+  renewed_holds (leaf t vr v rest) h = one_renewed (meta_fate options t) t vr v (renewed (meta_renewing options key) implementation rest) (kept_or (stays t) (is_tag 2 3 t) options.uids given) h.0 (renewed_holds rest h.1)
   renewed_holds (sequence t vr declared items rest) h = (h.0, renewed_holds rest h.1)
   renewed_holds (fragments t vr parts rest) h = (h.0, renewed_holds rest h.1)
 
@@ -216,9 +208,9 @@ module _ (options : Options) (key : List ℕ) (given : options.uids ≡ true) wh
   unfolding letters
   length_bytes n = Bytes-append (2 ∷ 0 ∷ 0 ∷ 0 ∷ 85 ∷ 76 ∷ 4 ∷ 0 ∷ []) (to_le_bytes w32 n) (all_bytes (2 ∷ 0 ∷ 0 ∷ 0 ∷ 85 ∷ 76 ∷ 4 ∷ 0 ∷ []) refl) (low_bytes 0 4 n)
 
-  pub group_bytes : (x : Trees) (uid : List ℕ) → HoldsBytes x → uid ≡ without_pads (syntax_value x) → Bytes (new_meta (renewed (meta_renewing options key) x) uid)
+  pub group_bytes : (x : Trees) (uid : List ℕ) → HoldsBytes x → uid ≡ without_pads (syntax_value x) → Bytes (new_meta (renewed (meta_renewing options key) implementation x) uid)
   group_bytes x uid h is =
-      let left : Trees = renewed (meta_renewing options key) x in
+      let left : Trees = renewed (meta_renewing options key) implementation x in
       let named : Bytes uid = subst Bytes (sym is) (unpadded_bytes (syntax_value x) (uid_bytes x h)) in
       Bytes-append (group_length (length (new_elements left uid))) (new_elements left uid) (length_bytes _) (set_written Little (with_syntax uid left) (with_holds uid left named (renewed_holds x h)))
 

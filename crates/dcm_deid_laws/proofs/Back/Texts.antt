@@ -1,9 +1,10 @@
 -- A text that can be moved has no padding, so it comes back as it was.
-use Rattle.std.proofs.Common.{◌≡◌, ◌≢◌, ◌∙◌, ap, sym, refl, subst, ℕ, suc, ℤ, ◌+◌, ◌*◌, ◌-◌, ◌<◌, ◌≤◌, List, [], ◌∷◌, ◌++◌, length, take, drop, take-append-drop, Bool, true, false, Some, None, inl, inr, ◌⊎◌, arith}
+use Rattle.std.proofs.Common.{◌≡◌, ◌≢◌, ◌∙◌, ap, sym, refl, subst, ℕ, ℤ, ◌+◌, ◌*◌, ◌-◌, ◌<◌, ◌≤◌, List, [], ◌∷◌, ◌++◌, length, take, drop, take-append-drop, Bool, true, false, Some, None, inl, inr, arith}
 use Rattle.std.specs.Prelude.{◌==◌, ◌&&◌, ◌||◌, not, nat_le, neg_ℤ, cond, if◌then◌else◌}
 use Rattle.std.specs.List.{AllZip, join_with_byte, list_all}
 use Rattle.std.proofs.lemmas.Bool.{and_parts, leb-true, eqb-true}
 use Rattle.std.proofs.lemmas.List.Splits.{join_with_byte-slice_split}
+use Rattle.dcm_lemmas.proofs.Numbers.{one_after}
 use Rattle.dcm_base.specs.Tables.Transfer.{before_pads, is_pad, without_pads}
 use Rattle.dcm_base.proofs.DumpsBack.Texts.{Bytes}
 use Rattle.dcm_dates.specs.declared.moving.DateKind.{DateKind}
@@ -57,10 +58,6 @@ digits (b ∷ bs) e = let parts = and_parts (is_digit b) (list_all is_digit bs) 
 
 -- ---- what may follow a date
 
-either : (a b : Bool) → (a || b) ≡ true → (a ≡ true) ⊎ (b ≡ true)
-either true b e = inl refl
-either false b e = inr e
-
 nothing : (text : List ℕ) → is_nothing text ≡ true → ArePlain text
 nothing [] e = tt
 nothing (b ∷ bs) e = let none = eqb-true (length (b ∷ bs)) 0 e in absurd (omega (arith, none))
@@ -92,11 +89,8 @@ zone (b ∷ rest) e =
     let parts = and_parts ((b == 43) || (b == 45)) (passes is_zone_minutes (after_pair 14 rest)) e in
     (sign b (b == 43) (b == 45) refl refl parts.0, two_digits is_zone_minutes 14 zone_minutes rest parts.1)
 
-one_more : (n : ℕ) → suc n ≡ 1 + n
-one_more n = omega arith
-
 behind_digit : (b : ℕ) (bs : List ℕ) (c : Bool) → is_digit b ≡ c → (is_zone (drop (digits_before bs) bs) ≡ true → ArePlain bs) → is_zone (drop (cond (not (not c)) (1 + digits_before bs) 0) (b ∷ bs)) ≡ true → ArePlain (b ∷ bs)
-behind_digit b bs true is more e = (digit b is, more (ap (λ (k : ℕ). is_zone (drop k (b ∷ bs))) (one_more (digits_before bs)) ∙ e))
+behind_digit b bs true is more e = (digit b is, more (ap (λ (k : ℕ). is_zone (drop k (b ∷ bs))) (one_after (digits_before bs)) ∙ e))
 behind_digit b bs false is more e = zone (b ∷ bs) e
 
 digits_and_zone : (text : List ℕ) → is_zone (drop (digits_before text) text) ≡ true → ArePlain text

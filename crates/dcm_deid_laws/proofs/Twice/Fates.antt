@@ -2,6 +2,8 @@
 use Rattle.std.proofs.Common.{◌≡◌, ◌≢◌, ◌∙◌, ap, sym, refl, Bool, true, false, ◌&&◌, ◌||◌, not, ◌==◌, if◌then◌else◌, List, [], ◌∷◌, Option, Some, None}
 use Rattle.std.specs.Prelude.{find}
 use Rattle.std.specs.List.{list_all, list_any}
+use Rattle.dcm_deid.proofs.Research.{kept_of_kept}
+use Rattle.dcm_lemmas.proofs.Truth.{and_first, and_second}
 use Rattle.dcm_base.specs.declared.dictionary.Dictionary.TheVariants.{Standard}
 use Rattle.dcm_base.specs.declared.tag.Tag.{Tag}
 use Rattle.dcm_base.specs.declared.vr.Vr.{Vr}
@@ -38,15 +40,6 @@ all_retain : list_all retains actions ≡ true
 unfolding actions
 all_retain = refl
 
--- the row that is found does so
-both_first : (a b : Bool) → (a && b) ≡ true → a ≡ true
-both_first true b e = refl
-both_first false b e = absurd (cc)
-
-both_second : (a b : Bool) → (a && b) ≡ true → b ≡ true
-both_second true b e = e
-both_second false b e = absurd (cc)
-
 found_here : (passes : Action → Bool) (b : Bool) (a f : Action) (rest : Option Action) → passes a ≡ true → (rest ≡ Some f → passes f ≡ true) → (if b then Some a else rest) ≡ Some f → passes f ≡ true
 found_here passes true a f rest p q is = cc
 found_here passes false a f rest p q is = q is
@@ -54,7 +47,7 @@ found_here passes false a f rest p q is = q is
 found_passes : (test passes : Action → Bool) (rows : List Action) (f : Action) → list_all passes rows ≡ true → find test rows ≡ Some f → passes f ≡ true
 found_passes test passes [] f all is = absurd (cc)
 found_passes test passes (a ∷ rows) f all is =
-    found_here passes (test a) a f (find test rows) (both_first (passes a) (list_all passes rows) all) (found_passes test passes rows f (both_second (passes a) (list_all passes rows) all)) is
+    found_here passes (test a) a f (find test rows) (and_first (passes a) (list_all passes rows) all) (found_passes test passes rows f (and_second (passes a) (list_all passes rows) all)) is
 
 -- a value of another kind than those that dates get, if any
 module _ (options : Options) (given : options.uids ≡ true) (unnamed : options.pseudonyms ≡ false) (made : NewValue) (other : (vr : Vr) → kept_as (are_modified options.dates) vr ≢ Anew made) where
@@ -136,14 +129,9 @@ module _ (options : Options) (given : options.uids ≡ true) (unnamed : options.
 
 -- ---- no value at all, where dates are not moved
 
-not_moved : (vr : Vr) → kept_as false vr ≡ Keep
-not_moved DA = refl
-not_moved DT = refl
-not_moved vr = refl
-
 none_moved : (moved : Bool) (made : NewValue) (vr : Vr) → moved ≡ false → kept_as moved vr ≢ Anew made
 none_moved true made vr e = absurd (cc)
-none_moved false made vr e = λ k. (let no : Keep ≡ Anew made = sym (not_moved vr) ∙ k in cc)
+none_moved false made vr e = λ k. (let no : Keep ≡ Anew made = sym (kept_of_kept vr) ∙ k in cc)
 
 pub none_anew : (options : Options) → MakesNothingAnew options → (made : NewValue) (depth : Depth) (read : ReadAs) (t : Tag) → fate_as options depth read t ≢ (Anew made)
 none_anew options nothing made = not_anew options nothing.0 nothing.1 made (λ vr. none_moved (are_modified options.dates) made vr nothing.2)

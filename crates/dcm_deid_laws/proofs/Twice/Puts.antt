@@ -1,5 +1,6 @@
 -- Elements that are put beside one another.
 use Rattle.std.proofs.Common.{◌≡◌, ◌∙◌, ap, sym, refl, Bool, true, false, ◌||◌, if◌then◌else◌}
+use Rattle.dcm_lemmas.proofs.Truth.{or_true}
 use Rattle.dcm_base.specs.declared.tag.Tag.{Tag}
 use Rattle.dcm_base.specs.Tables.Tag.{below, same_tag}
 use Rattle.dcm_base.specs.Tree.Tree.{Trees, no_tree, leaf, sequence, fragments, then_trees}
@@ -13,10 +14,6 @@ use Rattle.dcm_deid.proofs.Trees.Said.{set_with}
 has_if : (t : Tag) (c h : Bool) (x y : Trees) → has t x ≡ h → has t y ≡ h → has t (if c then x else y) ≡ h
 has_if t true h x y e f = e
 has_if t false h x y e f = f
-
-or_true : (b : Bool) → (b || true) ≡ true
-or_true true = refl
-or_true false = refl
 
 -- an element of a tag, alone
 pub record IsOf (t : Tag) (e : Trees) : Type 0 where

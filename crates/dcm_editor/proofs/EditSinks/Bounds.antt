@@ -1,8 +1,11 @@
 -- The sink's steps within their bounds are those without.
 use Rattle.std.proofs.Common.{◌≡◌, ℕ, zero, suc, ◌<◌, ◌≤◌, List, [], ◌∷◌, ◌++◌, length, Option, Some, None, Bool, true, false, ◌||◌, ◌&&◌, refl, sym, ◌∙◌, ap, subst, arith, ◌⊎◌, inl, inr}
 use Rattle.std.specs.Prelude.{map, fold, min, nat_lt, ◌==◌, if◌then◌else◌}
-use Rattle.std.proofs.lemmas.Bool.{lt-ltb, ne_eqb}
+use Rattle.std.proofs.lemmas.Bool.{lt-ltb}
 use Rattle.std.proofs.lemmas.List.{length-map}
+use Rattle.dcm_lemmas.proofs.Lists.{bits_alike, cons_alike}
+use Rattle.dcm_lemmas.proofs.Numbers.{below_not_equal}
+use Rattle.dcm_lemmas.proofs.Truth.{or_alike}
 use Rattle.dcm_base.specs.declared.tag.Tag.{Tag}
 use Rattle.dcm_base.specs.Tables.Tag.{same_tag}
 use Rattle.dcm_base.specs.Steps.Steps.{outputs}
@@ -21,11 +24,8 @@ clip n = min MOST_COUNTED n
 pub clipped : (n : ℕ) → (clip n ≡ n) ⊎ ((clip n ≡ MOST_COUNTED) × (MOST_COUNTED < n))
 clipped n = grind (arith)
 
-not_equal : (a b : ℕ) → a < b → (a == b) ≡ false
-not_equal a b h = ne_eqb a b (λ e. omega (arith, e))
-
 past : (k n : ℕ) → k < 1000000000 → clip n ≡ MOST_COUNTED → MOST_COUNTED < n → (k == clip n) ≡ (k == n)
-past k n h e g = ap (λ (m : ℕ). k == m) e ∙ not_equal k MOST_COUNTED (omega arith) ∙ sym (not_equal k n (omega arith))
+past k n h e g = ap (λ (m : ℕ). k == m) e ∙ below_not_equal k MOST_COUNTED (omega arith) ∙ sym (below_not_equal k n (omega arith))
 
 selects_clipped : (i : Index) (n : ℕ) → HasShortIndex i → selects i (clip n) ≡ selects i n
 selects_clipped (number k) n h = elim (clipped n) [ inl e ↦ ap (λ (m : ℕ). k == m) e | inr e ↦ past k n h e.0 e.1 ]
@@ -53,22 +53,13 @@ within_clipped (erase_all tag) t n h = refl
 within_clipped erase_private t n h = refl
 within_clipped elsewhere t n h = refl
 
-or_alike : (a b c d : Bool) → a ≡ b → c ≡ d → (a || c) ≡ (b || d)
-or_alike a b c d p q = cc
-
-edits_alike : (a b : Edit) (es fs : List Edit) → a ≡ b → es ≡ fs → a ∷ es ≡ b ∷ fs
-edits_alike a b es fs p q = cc
-
-bits_alike : (a b : Bool) (es fs : List Bool) → a ≡ b → es ≡ fs → a ∷ es ≡ b ∷ fs
-bits_alike a b es fs p q = cc
-
 any_erases_clipped : (es : List Edit) (t : Tag) (n : ℕ) → HaveShortIndexes es → any_erases es t (clip n) ≡ any_erases es t n
 any_erases_clipped [] t n h = refl
 any_erases_clipped (e ∷ es) t n h = or_alike _ _ _ _ (erases_clipped e t n h.0) (any_erases_clipped es t n h.1)
 
 all_within_clipped : (es : List Edit) (t : Tag) (n : ℕ) → HaveShortIndexes es → all_within es t (clip n) ≡ all_within es t n
 all_within_clipped [] t n h = refl
-all_within_clipped (e ∷ es) t n h = edits_alike _ _ _ _ (within_clipped e t n h.0) (all_within_clipped es t n h.1)
+all_within_clipped (e ∷ es) t n h = cons_alike _ _ _ _ (within_clipped e t n h.0) (all_within_clipped es t n h.1)
 
 abbrev item_finds : Tag → ℕ → Edit → Bool
 item_finds t n e = erases e t n || has_place (element_of (within e t n))

@@ -4,6 +4,7 @@ use Rattle.std.specs.Prelude.{if◌then◌else◌}
 use Rattle.std.specs.Borrow.{Bor}
 use Rattle.std.specs.Io.KnownBytes.{append_known}
 use Rattle.std.proofs.lemmas.List.{length-map}
+use Rattle.dcm_lemmas.proofs.Options.{known_nothing}
 use Rattle.dcm_base.specs.declared.tag.Tag.{Tag}
 use Rattle.dcm_base.specs.declared.vr.Vr.{Vr}
 use Rattle.dcm_base.specs.declared.length.Length.{Length}
@@ -12,7 +13,6 @@ use Rattle.dcm_base.specs.Tables.Syntax.{Little}
 use Rattle.dcm_base.specs.Steps.Atoms.{Atom, opens, value_byte, closes_leaf, opens_item, closes_item, closes_sequence, opens_fragment, ends, trees_then}
 use Rattle.dcm_base.specs.Steps.Steps.{outputs}
 use Rattle.dcm_base.specs.Tree.Tree.{Trees}
-use Rattle.dcm_devices.proofs.Writes.Puts.{append_known_none}
 use Rattle.dcm_base.proofs.DataSets.Row.{trees_then-append}
 use Rattle.dcm_stream.specs.declared.sink.Sink.{Ghosts}
 use Rattle.dcm_stream.specs.declared.token.Token.{Token}
@@ -134,4 +134,4 @@ nothing_passed s tokens.End l = gone s.dropped _ [] l refl
 pub takes_nothing : {X : Type 0} (sink : Ghosts X) (old : X) (atoms : List Atom) → atoms ≡ []
     → (sink.state old ≡ fold sink.step (sink.state old) atoms) × (sink.contents old ≡ append_known (sink.contents old) (outputs sink.step sink.writes (sink.state old) atoms))
 takes_nothing sink old atoms e =
-    (ap (λ (xs : List Atom). fold sink.step (sink.state old) xs) (sym e), sym (append_known_none (sink.contents old)) ∙ ap (λ (xs : List Atom). append_known (sink.contents old) (outputs sink.step sink.writes (sink.state old) xs)) (sym e))
+    (ap (λ (xs : List Atom). fold sink.step (sink.state old) xs) (sym e), sym (known_nothing (sink.contents old)) ∙ ap (λ (xs : List Atom). append_known (sink.contents old) (outputs sink.step sink.writes (sink.state old) xs)) (sym e))

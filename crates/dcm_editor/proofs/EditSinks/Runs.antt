@@ -1,6 +1,7 @@
 -- Where the sink goes over the atoms of trees, and what it passes on within what is dropped.
 use Rattle.std.proofs.Common.{◌≡◌, ℕ, zero, suc, List, [], ◌∷◌, ◌++◌, Option, Some, None, Bool, true, false, ◌||◌, refl, sym, ◌∙◌, ap}
 use Rattle.std.specs.Prelude.{map, fold}
+use Rattle.dcm_lemmas.proofs.Lists.{bits_alike}
 use Rattle.dcm_base.specs.declared.tag.Tag.{Tag}
 use Rattle.dcm_base.specs.declared.length.Length.{Length}
 use Rattle.dcm_base.specs.Tree.Tree.{Trees, no_tree, leaf, sequence, fragments, Items, no_item, item}
@@ -74,9 +75,6 @@ or_more : (b x y z : Bool) → (x || y) ≡ z → ((b || x) || y) ≡ (b || z)
 or_more true x y z e = refl
 or_more false x y z e = e
 
-pub bits_alike : (x y : Bool) (xs ys : List Bool) → x ≡ y → xs ≡ ys → x ∷ xs ≡ y ∷ ys
-bits_alike x y xs ys p q = cc
-
 pub either_twice : (bs : List Bool) (es : List Edit) (f g h : Edit → Bool) → ((e : Edit) → (f e || g e) ≡ h e) → either (either bs (map f es)) (map g es) ≡ either bs (map h es)
 either_twice [] es f g h p = refl
 either_twice (b ∷ bs) [] f g h p = refl
@@ -90,10 +88,6 @@ pub either_within : (bs : List Bool) (es : List Edit) (tag : Tag) (n : ℕ) (f g
     → either (either bs (map f es)) (map g (all_within es tag n)) ≡ either bs (map h es)
 either_within bs es tag n f g h p =
     ap (λ (x : List Bool). either (either bs (map f es)) x) (map_within es tag n g) ∙ either_twice bs es f (λ e. g (within e tag n)) h p
-
-pub or_assoc : (a b c : Bool) → ((a || b) || c) ≡ (a || b || c)
-or_assoc true b c = refl
-or_assoc false b c = refl
 
 pub or_four : (a b c d : Bool) → (((a || b) || c) || d) ≡ (a || b || c || d)
 or_four true b c d = refl

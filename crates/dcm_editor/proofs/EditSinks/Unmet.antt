@@ -1,6 +1,9 @@
 -- An element that no edit meets is passed on as it is, and finds no place for an edit.
-use Rattle.std.proofs.Common.{◌≡◌, ℕ, List, [], ◌∷◌, ◌++◌, map, Option, Bool, true, false, not, ◌||◌, ◌&&◌, refl, sym, ◌∙◌, ap}
-use Rattle.std.specs.Prelude.{if◌then◌else◌}
+use Rattle.std.proofs.Common.{◌≡◌, ℕ, List, [], ◌∷◌, ◌++◌, map, Option, Bool, true, false, not, ◌&&◌, refl, sym, ◌∙◌, ap}
+use Rattle.dcm_edits.proofs.Overlapping.Places.{or_else_quiet}
+use Rattle.dcm_edits.proofs.Trees.Selection.{new_off}
+use Rattle.dcm_lemmas.proofs.Lists.{bits_alike}
+use Rattle.dcm_lemmas.proofs.Truth.{or_others_false, or_parts}
 use Rattle.dcm_base.specs.declared.tag.Tag.{Tag}
 use Rattle.dcm_base.specs.declared.vr.Vr.{Vr}
 use Rattle.dcm_base.specs.declared.length.Length.{Length}
@@ -15,9 +18,9 @@ use Rattle.dcm_stream.specs.declared.token.Token.{Token}
 use Rattle.dcm_stream.specs.declared.token.Token.TheVariants as tokens
 use Rattle.dcm_head.specs.declared.head.Head.{Head}
 use Rattle.dcm_stream.proofs.Runs.Skipped.{none_open}
-use Rattle.dcm_edits.specs.Edit.{Edit, Fate, stays, becomes, goes, fate, acts, has, put, NewElement, no_element, new_leaf, new_sequence, element_of}
-use Rattle.dcm_edits.specs.Together.{completed, or_else, first_fate}
-use Rattle.dcm_edits.specs.NewOnes.{is_between, passes_new, put_new, puts}
+use Rattle.dcm_edits.specs.Edit.{Edit, Fate, stays, becomes, goes, fate, acts, NewElement, no_element, new_leaf, new_sequence, element_of}
+use Rattle.dcm_edits.specs.Together.{first_fate}
+use Rattle.dcm_edits.specs.NewOnes.{is_between, passes_new, puts}
 use Rattle.dcm_editor.specs.EditSink.{Level, State, makes, either, next, passed, unless_dropped, new_ones, head_by}
 use Rattle.dcm_editor.specs.Asking.{answer_of, any_answer}
 use Rattle.dcm_editor.specs.Editing.{state, meant, asked_here, leaves}
@@ -27,10 +30,6 @@ use Rattle.dcm_editor.specs.declared.asked.Question.TheVariants.{AtHead, Meets}
 use Rattle.dcm_edits.specs.declared.edit.Edit.{Edit as AnEdit}
 use Rattle.dcm_editor.specs.declared.editor.Editor.{Editor}
 use Rattle.dcm_editor.proofs.EditSinks.Passing.{same_asked}
-
-neither : (a b : Bool) → (a || b) ≡ false → (a ≡ false) × (b ≡ false)
-neither false b e = (refl, e)
-neither true b e = absurd cc
 
 pub both : (a b : Bool) → true ≡ (a && b) → (true ≡ a) × (true ≡ b)
 both true b e = (refl, e)
@@ -45,51 +44,36 @@ stays_as stays e = refl
 stays_as (becomes vr value) e = absurd cc
 stays_as goes e = absurd cc
 
-or_stays : (f g : Fate) → f ≡ stays → g ≡ stays → or_else f g ≡ stays
-or_stays f g p q = rw p q
-
 makes_none : (passes : Tag → Bool) (w : NewElement) → passes_new passes w ≡ false → makes passes w ≡ false
 makes_none passes no_element e = refl
 makes_none passes (new_leaf tag vr value) e = refl
 makes_none passes (new_sequence tag held) e = e
 
-pub puts_none : (passes : Tag → Bool) (es : List Edit) (w : NewElement) (set : Trees) → passes_new passes w ≡ false → put_new passes (completed es w) set ≡ set
-puts_none passes es no_element set e = refl
-puts_none passes es (new_leaf tag vr value) set e = ap (λ (b : Bool). if b && not (has tag set) then put tag (new_leaf tag vr value) set else set) e
-puts_none passes es (new_sequence tag held) set e = ap (λ (b : Bool). if b && not (has tag set) then put tag (completed es (new_sequence tag held)) set else set) e
-
-or_false : (a b c : Bool) → b ≡ false → c ≡ false → a ≡ (a || (b || c))
-or_false true b c p q = refl
-or_false false b c p q = rw p (sym q)
-
-cons_alike : (a b : Bool) (xs ys : List Bool) → a ≡ b → xs ≡ ys → a ∷ xs ≡ b ∷ ys
-cons_alike a b xs ys p q = cc
-
 module _ (tag : Tag) (last : Option Tag) where
   unmet : (e : Edit) (es : List Edit) → any_answer (Meets tag last) (e ∷ es) ≡ false
       → ((acts (fate e tag) ≡ false) × (passes_new (is_between last tag) (element_of e) ≡ false)) × (any_answer (Meets tag last) es ≡ false)
   unmet e es none =
-      let x = neither (answer_of (Meets tag last) e) (any_answer (Meets tag last) es) none in
-      (neither (acts (fate e tag)) (passes_new (is_between last tag) (element_of e)) x.0, x.1)
+      let x = or_parts (answer_of (Meets tag last) e) (any_answer (Meets tag last) es) none in
+      (or_parts (acts (fate e tag)) (passes_new (is_between last tag) (element_of e)) x.0, x.1)
 
   unmet_fate : (es : List Edit) → any_answer (Meets tag last) es ≡ false → first_fate es tag ≡ stays
   unmet_fate [] none = refl
   unmet_fate (e ∷ es) none =
       let x = unmet e es none in
-      or_stays (fate e tag) (first_fate es tag) (stays_as (fate e tag) x.0.0) (unmet_fate es x.1)
+      or_else_quiet (fate e tag) (first_fate es tag) (stays_as (fate e tag) x.0.0) (unmet_fate es x.1)
 
   unmet_new : (es : List Edit) (set : Trees) → any_answer (Meets tag last) es ≡ false → puts (is_between last tag) es set ≡ set
   unmet_new [] set none = refl
   unmet_new (e ∷ es) set none =
       let x = unmet e es none in
-      ap (puts (is_between last tag) es) (puts_none (is_between last tag) es (element_of e) set x.0.1) ∙ unmet_new es set x.1
+      ap (puts (is_between last tag) es) (new_off (is_between last tag) es (element_of e) set x.0.1) ∙ unmet_new es set x.1
 
   unmet_found : (found : List Bool) (es : List Edit) → any_answer (Meets tag last) es ≡ false → found ≡ either found (map (answer_of (AtHead tag last)) es)
   unmet_found [] es none = refl
   unmet_found (a ∷ found) [] none = refl
   unmet_found (a ∷ found) (e ∷ es) none =
       let x = unmet e es none in
-      cons_alike _ _ _ _ (or_false a (acts (fate e tag)) (makes (is_between last tag) (element_of e)) x.0.0 (makes_none (is_between last tag) (element_of e) x.0.1)) (unmet_found found es x.1)
+      bits_alike _ _ _ _ (or_others_false a (acts (fate e tag)) (makes (is_between last tag) (element_of e)) x.0.0 (makes_none (is_between last tag) (element_of e) x.0.1)) (unmet_found found es x.1)
 
 abbrev state_with : Level → List Level → ℕ → List Bool → State
 state_with level outer dropped found = record { level = level; outer = outer; dropped = dropped; found = found }

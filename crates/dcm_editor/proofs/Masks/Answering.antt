@@ -3,6 +3,7 @@ use Rattle.std.proofs.Common.{◌≡◌, ℕ, zero, suc, ◌+◌, ◌<◌, List,
 use Rattle.std.specs.Prelude.{◌==◌, if◌then◌else◌}
 use Rattle.std.specs.Int.{bit_at}
 use Rattle.std.proofs.lemmas.Nat.Bits.{bit_at_or, bit_at-lt}
+use Rattle.dcm_lemmas.proofs.Lists.{bits_alike, heads_alike, tails_alike}
 use Rattle.dcm_base.specs.declared.tag.Tag.{Tag}
 use Rattle.dcm_base.specs.Steps.Atoms.{value_byte}
 use Rattle.dcm_edits.specs.Edit.{Edit, elsewhere}
@@ -37,23 +38,14 @@ either_bit a b p q = by (small a p) (small b q)
 pub set_in_either : (a b k : ℕ) → is_set (bit_or a b) k ≡ (is_set a k || is_set b k)
 set_in_either a b k = ap (λ (n : ℕ). n == 1) (bit_at_or a b k) ∙ either_bit (bit_at a k) (bit_at b k) (bit_at-lt a k) (bit_at-lt b k)
 
-cons_alike : (a b : Bool) (xs ys : List Bool) → a ≡ b → xs ≡ ys → a ∷ xs ≡ b ∷ ys
-cons_alike a b xs ys p q = cc
-
 bits_either : (a b k : ℕ) (es : List Edit) → bits (bit_or a b) k es ≡ either (bits a k es) (bits b k es)
 bits_either a b k [] = refl
-bits_either a b k (e ∷ es) = cons_alike _ _ _ _ (set_in_either a b k) (bits_either a b (suc k) es)
+bits_either a b k (e ∷ es) = bits_alike _ _ _ _ (set_in_either a b k) (bits_either a b (suc k) es)
 
 pub found_either : (a b d depth k : ℕ) (es : List Edit) (more : List Bool) → bits b k es ≡ more → bits (bit_or a b) k es ≡ either (bits a k es) more
 found_either a b d depth k es more e = bits_either a b k es ∙ ap (λ (bs : List Bool). either (bits a k es) bs) e
 
 -- ---- which go along into an item
-
-heads_alike : (a b : Bool) (xs ys : List Bool) → a ∷ xs ≡ b ∷ ys → a ≡ b
-heads_alike a b xs ys e = cc
-
-tails_alike : (a b : Bool) (xs ys : List Bool) → a ∷ xs ≡ b ∷ ys → xs ≡ ys
-tails_alike a b xs ys e = cc
 
 along_one : (b : Bool) (e : Edit) (t : Tag) (n : ℕ) → answer_of (GoesAlong t n) (if b then e else elsewhere) ≡ (b && goes_along e t n)
 along_one true e t n = refl

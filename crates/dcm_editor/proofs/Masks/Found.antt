@@ -1,6 +1,8 @@
 -- What the sink finds on its way is what the edits find in the whole.
 use Rattle.std.proofs.Common.{◌≡◌, ℕ, suc, List, [], ◌∷◌, Option, Some, None, Bool, true, false, not, ◌||◌, ◌&&◌, refl, sym, ◌∙◌, ap}
 use Rattle.std.specs.Prelude.{map, fold}
+use Rattle.dcm_lemmas.proofs.Lists.{bits_alike}
+use Rattle.dcm_lemmas.proofs.Truth.{and_both, and_second_false, or_first, or_group, or_neither}
 use Rattle.dcm_base.specs.declared.tag.Tag.{Tag}
 use Rattle.dcm_base.specs.Tree.Tree.{Trees, no_tree, leaf, sequence, fragments, Items, no_item, item, item_count}
 use Rattle.dcm_base.specs.Tree.Front.{Front, front, OpenTree, nothing_open, open_leaf, open_sequence, open_fragments, OpenItem, no_open_item, open_item}
@@ -16,9 +18,9 @@ use Rattle.dcm_base.specs.Steps.Anew.{reached_anew}
 use Rattle.dcm_editor.specs.EditSink.{begun, has_place, makes, either}
 use Rattle.dcm_edits.specs.Bounds.{HaveValues}
 use Rattle.dcm_editor.proofs.EditSinks.Unbounded.{next_unbounded}
-use Rattle.dcm_edits.proofs.Trees.NewOnes.{has-above, below_not_back, same_not_below, and_none, and_all}
+use Rattle.dcm_edits.proofs.Trees.NewOnes.{has-above, below_not_back, same_not_below, and_all}
 use Rattle.dcm_edits.proofs.Trees.Kept.{AllUnder, under_tag, under_last}
-use Rattle.dcm_editor.proofs.EditSinks.Runs.{out, head_seen, item_seen, seen, seen_items, bits_alike}
+use Rattle.dcm_editor.proofs.EditSinks.Runs.{out, head_seen, item_seen, seen, seen_items}
 use Rattle.dcm_editor.proofs.Trees.SoFar.{last_some, passed_closed}
 use Rattle.dcm_editor.proofs.Trees.Fronts.{seen_front, seen_open, seen_open_item, found_front, edit_passes}
 
@@ -42,15 +44,6 @@ marked_leaf last t (new_leaf g vr value) (leaf tag vr' value' rest) p = marked_l
 marked_leaf last t (new_leaf g vr value) (sequence tag vr' declared items rest) p = marked_leaf (Some tag) t (new_leaf g vr value) rest p
 marked_leaf last t (new_leaf g vr value) (fragments tag vr' values rest) p = marked_leaf (Some tag) t (new_leaf g vr value) rest p
 marked_leaf last t (new_sequence g held) set p = absurd cc
-
-or_both : (x y : Bool) → x ≡ false → y ≡ false → (x || y) ≡ false
-or_both x y p q = cc
-
-or_left_true : (x y : Bool) → x ≡ true → (x || y) ≡ true
-or_left_true x y p = cc
-
-both_true : (x y : Bool) → x ≡ true → y ≡ true → (x && y) ≡ true
-both_true x y p q = cc
 
 not_false : (x : Bool) → x ≡ false → not x ≡ true
 not_false x p = cc
@@ -88,14 +81,14 @@ missing_step last tag t hr m l p q low same high = by_order (below t tag) (same_
   where
     by_order : (d e : Bool) → below t tag ≡ d → same_tag t tag ≡ e → not (same_tag t tag || hr) ≡ ((is_between last tag t || m) || l)
     by_order true e d f =
-        not_false (same_tag t tag || hr) (or_both (same_tag t tag) hr (below_other_way t tag d) (low d))
-        ∙ sym (or_left_true (is_between last tag t || m) l (or_left_true (is_between last tag t) m (both_true (above_last last t) (below t tag) p d)))
+        not_false (same_tag t tag || hr) (or_neither (same_tag t tag) hr (below_other_way t tag d) (low d))
+        ∙ sym (or_first (is_between last tag t || m) l (or_first (is_between last tag t) m (and_both (above_last last t) (below t tag) p d)))
     by_order false true d f =
-        not_true (same_tag t tag || hr) (or_left_true (same_tag t tag) hr f)
-        ∙ sym (or_after (is_between last tag t) m l (and_none (above_last last t) (below t tag) d) ∙ same (same_not_below t tag f))
+        not_true (same_tag t tag || hr) (or_first (same_tag t tag) hr f)
+        ∙ sym (or_after (is_between last tag t) m l (and_second_false (above_last last t) (below t tag) d) ∙ same (same_not_below t tag f))
     by_order false false d f =
         ap (λ (b : Bool). not (b || hr)) f ∙ high (below_other t tag d f)
-        ∙ sym (or_after (is_between last tag t) m l (and_none (above_last last t) (below t tag) d))
+        ∙ sym (or_after (is_between last tag t) m l (and_second_false (above_last last t) (below t tag) d))
 
 missing_sequence : (last : Option Tag) (t : Tag) (held set : Trees) → Ascend last set → above_last last t ≡ true
     → not (has t set) ≡ (marked last (new_sequence t held) set || above_last (last_tag last set) t)
@@ -109,7 +102,7 @@ missing_sequence last t held (fragments tag vr values rest) a p =
     missing_step last tag t (has t rest) _ _ p a.0 (λ q. has-above t tag rest a.1 q) (λ q. not_after (Some tag) t held rest a.1 q) (λ q. missing_sequence (Some tag) t held rest a.1 q)
 
 missing_marked : (w : NewElement) (set : Trees) → Ascend None set → has_place_in w set ≡ (has_place w || (marked None w set || makes (above_last (last_tag None set)) w))
-missing_marked no_element set a = sym (or_both (marked None no_element set) false (marked_none None set) refl)
+missing_marked no_element set a = sym (or_neither (marked None no_element set) false (marked_none None set) refl)
 missing_marked (new_leaf tag vr value) set a = refl
 missing_marked (new_sequence t held) set a = missing_sequence None t held set a refl
 
@@ -182,19 +175,19 @@ open_marked_none last (open_fragments tag vr values more) c = refl
 unmarked : (q : Tag → Bool) (last : Option Tag) (t : Tag) (held set : Trees) → AllUnder q set → q t ≡ false → marked last (new_sequence t held) set ≡ false
 unmarked q last t held no_tree u p = refl
 unmarked q last t held (leaf tag vr value rest) u p =
-    or_both (is_between last tag t) _ (and_none (above_last last t) (below t tag) (under_not (below t tag) (q t) (u.0 t) p)) (unmarked q (Some tag) t held rest u.1 p)
+    or_neither (is_between last tag t) _ (and_second_false (above_last last t) (below t tag) (under_not (below t tag) (q t) (u.0 t) p)) (unmarked q (Some tag) t held rest u.1 p)
   where
     under_not : (a b : Bool) → (a ≡ true → b ≡ true) → b ≡ false → a ≡ false
     under_not true b h e = let r : b ≡ true = h refl in cc
     under_not false b h e = refl
 unmarked q last t held (sequence tag vr declared items rest) u p =
-    or_both (is_between last tag t) _ (and_none (above_last last t) (below t tag) (under_not (below t tag) (q t) (u.0 t) p)) (unmarked q (Some tag) t held rest u.1 p)
+    or_neither (is_between last tag t) _ (and_second_false (above_last last t) (below t tag) (under_not (below t tag) (q t) (u.0 t) p)) (unmarked q (Some tag) t held rest u.1 p)
   where
     under_not : (a b : Bool) → (a ≡ true → b ≡ true) → b ≡ false → a ≡ false
     under_not true b h e = let r : b ≡ true = h refl in cc
     under_not false b h e = refl
 unmarked q last t held (fragments tag vr values rest) u p =
-    or_both (is_between last tag t) _ (and_none (above_last last t) (below t tag) (under_not (below t tag) (q t) (u.0 t) p)) (unmarked q (Some tag) t held rest u.1 p)
+    or_neither (is_between last tag t) _ (and_second_false (above_last last t) (below t tag) (under_not (below t tag) (q t) (u.0 t) p)) (unmarked q (Some tag) t held rest u.1 p)
   where
     under_not : (a b : Bool) → (a ≡ true → b ≡ true) → b ≡ false → a ≡ false
     under_not true b h e = let r : b ≡ true = h refl in cc
@@ -222,17 +215,17 @@ none_marked t held (fragments tag vr values rest) e = absurd (last_some tag rest
 unfinished_missing : (t : Tag) (held whole : Trees) (r : Option Tag) → last_tag None whole ≡ r → Ascend None whole
     → not (has t whole || false || not (is_passed t r false)) ≡ (marked None (new_sequence t held) whole || false)
 unfinished_missing t held whole None e a =
-    where_not_passed (has t whole) false false refl ∙ sym (or_both (marked None (new_sequence t held) whole) false (none_marked t held whole e) refl)
+    where_not_passed (has t whole) false false refl ∙ sym (or_neither (marked None (new_sequence t held) whole) false (none_marked t held whole e) refl)
 unfinished_missing t held whole (Some u) e a = by_test (below t u) refl
   where
     by_test : (b : Bool) → below t u ≡ b → not (has t whole || false || not (is_passed t (Some u) false)) ≡ (marked None (new_sequence t held) whole || false)
     by_test true d =
-        where_passed (has t whole) false (below t u || false) refl (or_left_true (below t u) false d)
+        where_passed (has t whole) false (below t u || false) refl (or_first (below t u) false d)
         ∙ missing_sequence None t held whole a refl
         ∙ ap (λ (b : Bool). marked None (new_sequence t held) whole || b) (ap (λ (l : Option Tag). above_last l t) e ∙ below_not_back t u d)
     by_test false d =
-        where_not_passed (has t whole) false (below t u || false) (or_both (below t u) false d refl)
-        ∙ sym (or_both (marked None (new_sequence t held) whole) false (unmarked (λ g. below g u) None t held whole (under_last None u whole a e) d) refl)
+        where_not_passed (has t whole) false (below t u || false) (or_neither (below t u) false d refl)
+        ∙ sym (or_neither (marked None (new_sequence t held) whole) false (unmarked (λ g. below g u) None t held whole (under_last None u whole a e) d) refl)
 
 open_missing : (tag t : Tag) (held whole : Trees) (r : Option Tag) (c : Bool) → Ascend None whole → ReachedLast tag whole r c
     → not (has t whole || same_tag t tag || not (is_passed t r c)) ≡ (marked None (new_sequence t held) whole || is_between (last_tag None whole) tag t)
@@ -244,17 +237,17 @@ open_missing tag t held whole r c a l =
     by_test : (b : Bool) → below t tag ≡ b
         → not (has t whole || same_tag t tag || not (is_passed t (Some tag) false)) ≡ (marked None (new_sequence t held) whole || is_between (last_tag None whole) tag t)
     by_test true d =
-        where_passed (has t whole) (same_tag t tag) (below t tag || false) (below_other_way t tag d) (or_left_true (below t tag) false d)
+        where_passed (has t whole) (same_tag t tag) (below t tag || false) (below_other_way t tag d) (or_first (below t tag) false d)
         ∙ missing_sequence None t held whole a refl
         ∙ ap (λ (b : Bool). marked None (new_sequence t held) whole || b) (sym (and_all (above_last (last_tag None whole) t) (below t tag) d))
     by_test false d =
-        where_not_passed (has t whole) (same_tag t tag) (below t tag || false) (or_both (below t tag) false d refl)
-        ∙ sym (or_both (marked None (new_sequence t held) whole) (is_between (last_tag None whole) tag t)
-        (unmarked (λ g. below g tag) None t held whole (under_tag tag whole l.above) d) (and_none (above_last (last_tag None whole) t) (below t tag) d))
+        where_not_passed (has t whole) (same_tag t tag) (below t tag || false) (or_neither (below t tag) false d refl)
+        ∙ sym (or_neither (marked None (new_sequence t held) whole) (is_between (last_tag None whole) tag t)
+        (unmarked (λ g. below g tag) None t held whole (under_tag tag whole l.above) d) (and_second_false (above_last (last_tag None whole) t) (below t tag) d))
 
 front_missing : (w : NewElement) (whole : Trees) (o : OpenTree) (r : Option Tag) (c : Bool) → Ascend None whole → OpenAscends whole r c o → r ≡ reached_tag whole o
     → has_place_so_far w (front whole o r c) ≡ (has_place w || (marked None w whole || open_marked (last_tag None whole) w o c))
-front_missing no_element whole o r c a l e = sym (or_both _ _ (marked_none None whole) (open_marked_none (last_tag None whole) o c))
+front_missing no_element whole o r c a l e = sym (or_neither _ _ (marked_none None whole) (open_marked_none (last_tag None whole) o c))
 front_missing (new_leaf t vr value) whole o r c a l e = refl
 front_missing (new_sequence t held) whole nothing_open r true a l e =
     where_passed (has t whole) false (is_passed t r true) refl (passed_closed t r) ∙ missing_sequence None t held whole a refl
@@ -282,10 +275,6 @@ or_open false true false false = refl
 or_open false false true g = refl
 or_open false false false true = refl
 or_open false false false false = refl
-
-or_group : (a b c : Bool) → ((a || b) || c) ≡ (a || (b || c))
-or_group true b c = refl
-or_group false b c = refl
 
 mutual
   unfolding Shows

@@ -1,9 +1,10 @@
 -- The index of the edits, as one edit after another is added.
-use Rattle.std.proofs.Common.{◌≡◌, ◌≢◌, ℕ, suc, ◌+◌, ◌<◌, length, List, [], ◌∷◌, map, Bool, true, false, ◌&&◌, refl, sym, ◌∙◌, ap, arith}
+use Rattle.std.proofs.Common.{◌≡◌, ◌≢◌, ℕ, suc, ◌+◌, ◌<◌, length, List, [], ◌∷◌, map, Bool, true, false, refl, sym, ◌∙◌, ap, arith}
 use Rattle.std.specs.Prelude.{◌==◌}
-use Rattle.std.proofs.lemmas.Bool.{eqb-true, eqb-false, false≢true}
+use Rattle.std.proofs.lemmas.Bool.{eqb-true, eqb-false}
 use Rattle.std.proofs.lemmas.List.{get_or-set_same, get_or-set_other}
 use Rattle.std.proofs.Math.ListN.{set, get_or}
+use Rattle.dcm_lemmas.proofs.Truth.{and_both, and_parts}
 use Rattle.dcm_base.specs.declared.tag.Tag.{Tag}
 use Rattle.dcm_edits.specs.Edit.{Index, number, every, PathEdit, step, insert, modify, erase, erase_item}
 use Rattle.dcm_edits.specs.Edit.{Edit, on_path, modify_all, erase_all, erase_private, elsewhere}
@@ -16,18 +17,11 @@ use Rattle.dcm_editor.specs.declared.index.TagMasks.{TagMasks}
 
 -- ---- one edit
 
-and_parts : (a b : Bool) → (a && b) ≡ true → (a ≡ true) × (b ≡ true)
-and_parts true b e = (refl, e)
-and_parts false b e = absurd (false≢true e)
-
-both : (a b : Bool) → a ≡ true → b ≡ true → (a && b) ≡ true
-both a b p q = rw p q
-
 pub along_has : (index : TagIndex) (k : ℕ) (steps : List Step) (edit : PathEdit) → names_steps index.steps k steps ≡ true → has_path index k edit ≡ true → has_path index k (along steps edit) ≡ true
 along_has index k [] edit n h = h
 along_has index k (s ∷ steps) edit n h =
     let x = and_parts (names_step index.steps k s.tag (index_of s.index)) (names_steps index.steps k steps) n in
-    both (names_step index.steps k s.tag (index_of s.index)) (has_path index k (along steps edit)) x.0 (along_has index k steps edit x.1 h)
+    and_both (names_step index.steps k s.tag (index_of s.index)) (has_path index k (along steps edit)) x.0 (along_has index k steps edit x.1 h)
 
 step_grows : (old new : TagMasks) → MasksGrow old new → (k : ℕ) (tag : Tag) (i : Index) → names_step old k tag i ≡ true → names_step new k tag i ≡ true
 step_grows old new g k tag (number n) h = g k (bucket_of_item tag n) h
@@ -37,7 +31,7 @@ module _ (old new : TagIndex) (ends : MasksGrow old.ends new.ends) (steps : Mask
   pub path_grows : (k : ℕ) (p : PathEdit) → has_path old k p ≡ true → has_path new k p ≡ true
   path_grows k (step tag i p) h =
       let x = and_parts (names_step old.steps k tag i) (has_path old k p) h in
-      both (names_step new.steps k tag i) (has_path new k p) (step_grows old.steps new.steps steps k tag i x.0) (path_grows k p x.1)
+      and_both (names_step new.steps k tag i) (has_path new k p) (step_grows old.steps new.steps steps k tag i x.0) (path_grows k p x.1)
   path_grows k (insert tag vr value) h = makers k h
   path_grows k (modify tag vr value) h = ends k (bucket_of tag) h
   path_grows k (erase tag) h = ends k (bucket_of tag) h
@@ -86,7 +80,7 @@ StepsSoFar now k left all = (final : TagMasks) → MasksGrow now final → names
 
 pub steps_on : (all : List Step) (old new : TagMasks) (k : ℕ) (steps : List Step) (s : Step) (after : List Step) → steps ≡ s ∷ after → StepsSoFar old k steps all → MasksGrow old new → names_step new k s.tag (index_of s.index) ≡ true → StepsSoFar new k after all
 steps_on all old new k steps s after is so_far grown here = λ final grows rest.
-    so_far final (λ i t h. grows i t (grown i t h)) (ap (λ (xs : List Step). names_steps final k xs) is ∙ both (names_step final k s.tag (index_of s.index)) (names_steps final k after) (step_grows new final grows k s.tag (index_of s.index) here) rest)
+    so_far final (λ i t h. grows i t (grown i t h)) (ap (λ (xs : List Step). names_steps final k xs) is ∙ and_both (names_step final k s.tag (index_of s.index)) (names_steps final k after) (step_grows new final grows k s.tag (index_of s.index) here) rest)
 
 pub steps_end : (all : List Step) (now : TagMasks) (k : ℕ) (steps : List Step) → length steps ≡ 0 → StepsSoFar now k steps all → names_steps now k all ≡ true
 steps_end all now k [] none so_far = so_far now (λ i t h. h) refl
@@ -125,7 +119,7 @@ module _ {X : Type 0} (f : X → Edit) (all : List Edit) where
   goes_on old new k edits e after is so_far grown here = λ final grows rest.
       so_far final (λ i x h. grows i x (grown i x h))
       (ap (λ (xs : List X). has_all final k (map f xs)) is
-      ∙ both (has_edit final k (f e)) (has_all final (suc k) (map f after)) (grows k (f e) here) (ap (λ (n : ℕ). has_all final n (map f after)) (let more : suc k ≡ k + 1 = omega arith in more) ∙ rest))
+      ∙ and_both (has_edit final k (f e)) (has_all final (suc k) (map f after)) (grows k (f e) here) (ap (λ (n : ℕ). has_all final n (map f after)) (let more : suc k ≡ k + 1 = omega arith in more) ∙ rest))
 
   pub ends : (now : TagIndex) (k : ℕ) (edits : List X) → length edits ≡ 0 → SoFar now k (map f edits) all → has_all now 0 all ≡ true
   ends now k [] none so_far = so_far now (λ i x h. h) refl

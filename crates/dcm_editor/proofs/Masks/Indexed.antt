@@ -4,7 +4,11 @@ use Rattle.std.specs.Prelude.{if◌then◌else◌, ◌==◌, slice_index}
 use Rattle.std.specs.Int.{bit_at}
 use Rattle.std.specs.Int.Bits.{bit_and, bit_or}
 use Rattle.std.proofs.lemmas.Bool.{eqb-true, false≢true}
-use Rattle.std.proofs.lemmas.Nat.Bits.{bit_at_and, bit_at-lt, bit_at-zero}
+use Rattle.std.proofs.lemmas.Nat.Bits.{bit_at_and, bit_at-lt}
+use Rattle.dcm_editor.proofs.Masks.Skips.{none_set}
+use Rattle.dcm_edits.proofs.Trees.Selection.{new_off}
+use Rattle.dcm_lemmas.proofs.Lists.{bits_alike}
+use Rattle.dcm_lemmas.proofs.Truth.{and_parts, or_alike, or_others_false, or_parts}
 use Rattle.dcm_base.specs.declared.tag.Tag.{Tag}
 use Rattle.dcm_base.specs.Tables.Tag.{same_tag, is_private}
 use Rattle.dcm_base.specs.Tree.Tree.{Trees}
@@ -20,18 +24,9 @@ use Rattle.dcm_editor.specs.Masks.{is_set, at_depth, rest_of_path, asked, bits, 
 use Rattle.dcm_editor.specs.declared.asked.Question.TheVariants.{AtHead, Meets}
 use Rattle.dcm_editor.specs.declared.index.TagIndex.{TagIndex}
 use Rattle.dcm_editor.specs.declared.index.TagMasks.{TagMasks}
-use Rattle.dcm_editor.proofs.EditSinks.Unmet.{puts_none}
 use Rattle.dcm_editor.proofs.Masks.Answering.{set_in_either}
 
 -- ---- bits
-
-and_parts : (a b : Bool) → (a && b) ≡ true → (a ≡ true) × (b ≡ true)
-and_parts true b e = (refl, e)
-and_parts false b e = absurd (false≢true e)
-
-or_parts : (a b : Bool) → (a || b) ≡ false → (a ≡ false) × (b ≡ false)
-or_parts false b e = (refl, e)
-or_parts true b e = absurd (false≢true (sym e))
 
 or_unset : (a b k : ℕ) → is_set (bit_or a b) k ≡ false → (is_set a k ≡ false) × (is_set b k ≡ false)
 or_unset a b k e = or_parts (is_set a k) (is_set b k) (sym (set_in_either a b k) ∙ e)
@@ -52,9 +47,6 @@ both_bit a b p q = by (small a p) (small b q)
 
 set_in_both : (a b k : ℕ) → is_set (bit_and a b) k ≡ (is_set a k && is_set b k)
 set_in_both a b k = ap (λ (n : ℕ). n == 1) (bit_at_and a b k) ∙ both_bit (bit_at a k) (bit_at b k) (bit_at-lt a k) (bit_at-lt b k)
-
-none_set : (k : ℕ) → is_set 0 k ≡ false
-none_set k = ap (λ (b : ℕ). b == 1) (bit_at-zero k)
 
 -- ---- one edit
 
@@ -225,14 +217,8 @@ module _ (index : TagIndex) (k : ℕ) where
 abbrev AlikeAt : Tag → Edit → Edit → Type 0
 AlikeAt tag e f = (e ≡ f) ⊎ (Still tag e × (f ≡ elsewhere))
 
-or_alike : (a b c d : Bool) → a ≡ b → c ≡ d → (a || c) ≡ (b || d)
-or_alike a b c d p q = cc
-
 fates_alike : (a b c d : Fate) → a ≡ b → c ≡ d → or_else a c ≡ or_else b d
 fates_alike a b c d p q = cc
-
-cons_alike : (a b : Bool) (xs ys : List Bool) → a ≡ b → xs ≡ ys → a ∷ xs ≡ b ∷ ys
-cons_alike a b xs ys p q = cc
 
 module _ (tag : Tag) (last : Option Tag) where
   meets_alike : (e f : Edit) → AlikeAt tag e f → answer_of (Meets tag last) f ≡ answer_of (Meets tag last) e
@@ -279,7 +265,7 @@ module _ (index : TagIndex) (d mask : ℕ) (tag : Tag) where
   heads_narrowed last k [] h = refl
   heads_narrowed last k (e ∷ es) h =
       let x = and_parts (has_edit index k e) (has_all index (suc k) es) h in
-      cons_alike _ _ _ _ (heads_alike tag last _ _ (here_alike k e x.0)) (heads_narrowed last (suc k) es x.1)
+      bits_alike _ _ _ _ (heads_alike tag last _ _ (here_alike k e x.0)) (heads_narrowed last (suc k) es x.1)
 
 -- no edit of an empty mask is asked
 pub none_asked : (last : Option Tag) (tag : Tag) (d mask k : ℕ) (es : List Edit) → mask ≡ 0 → any_answer (Meets tag last) (asked d mask k es) ≡ false
@@ -313,7 +299,7 @@ module _ (index : TagIndex) (d mask : ℕ) (nothing : bit_and mask index.makers 
   none_made passes k [] set h = refl
   none_made passes k (e ∷ es) set h =
       let x = and_parts (has_edit index k e) (has_all index (suc k) es) h in
-      ap (puts passes (asked d mask (suc k) es)) (puts_none passes (asked d mask (suc k) es) (element_of (asked_one d mask k e)) set (ap (passes_new passes) (made_here k e x.0)))
+      ap (puts passes (asked d mask (suc k) es)) (new_off passes (asked d mask (suc k) es) (element_of (asked_one d mask k e)) set (ap (passes_new passes) (made_here k e x.0)))
       ∙ none_made passes (suc k) es set x.1
 
   pub none_found : (passes : Tag → Bool) (found : List Bool) (k : ℕ) (es : List Edit) → has_all index k es ≡ true → found ≡ either found (map (λ e. makes passes (element_of e)) (asked d mask k es))
@@ -321,13 +307,9 @@ module _ (index : TagIndex) (d mask : ℕ) (nothing : bit_and mask index.makers 
   none_found passes (a ∷ found) k [] h = refl
   none_found passes (a ∷ found) k (e ∷ es) h =
       let x = and_parts (has_edit index k e) (has_all index (suc k) es) h in
-      cons_alike _ _ _ _ (or_same a (makes passes (element_of (asked_one d mask k e))) (ap (makes passes) (made_here k e x.0))) (none_found passes found (suc k) es x.1)
+      bits_alike _ _ _ _ (or_same a (makes passes (element_of (asked_one d mask k e))) (ap (makes passes) (made_here k e x.0))) (none_found passes found (suc k) es x.1)
 
 -- ---- no edit names an item
-
-neither : (a b c : Bool) → b ≡ false → c ≡ false → a ≡ (a || (b || c))
-neither true b c p q = refl
-neither false b c p q = rw p (sym q)
 
 ignored : (index : TagIndex) (k : ℕ) (tag : Tag) (d : ℕ) (e : Edit) (n : ℕ) (b : Bool) → has_edit index k e ≡ true → (b ≡ true → Unentered index k tag n) → Ignores index k tag n (masked b d e)
 ignored index k tag d e n false h u = (refl, refl)
@@ -356,7 +338,7 @@ module _ (index : TagIndex) (d mask : ℕ) (tag : Tag) (n : ℕ) (nothing : bit_
   none_placed (a ∷ found) k (e ∷ es) h =
       let x = and_parts (has_edit index k e) (has_all index (suc k) es) h in
       let y = ignored_here k e x.0 in
-      cons_alike _ _ _ _ (neither a (erases (asked_one d mask k e) tag n) (has_place (element_of (within (asked_one d mask k e) tag n))) y.0 y.1) (none_placed found (suc k) es x.1)
+      bits_alike _ _ _ _ (or_others_false a (erases (asked_one d mask k e) tag n) (has_place (element_of (within (asked_one d mask k e) tag n))) y.0 y.1) (none_placed found (suc k) es x.1)
 
   pub others_along : (k : ℕ) (es : List Edit) → has_all index k es ≡ true → bits index.everywhere k es ≡ map is_everywhere es → GoAlong d mask (bit_and mask index.everywhere) tag n k es
   others_along k [] h t = tt

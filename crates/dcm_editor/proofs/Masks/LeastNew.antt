@@ -2,6 +2,10 @@
 use Rattle.std.proofs.Common.{◌≡◌, List, [], ◌∷◌, Option, Some, None, Bool, true, false, refl, sym, ◌∙◌, ap, subst, inl, inr, ◌⊎◌, arith}
 use Rattle.std.specs.Prelude.{if◌then◌else◌}
 use Rattle.std.proofs.lemmas.Bool.Decides.{nat_tests}
+use Rattle.dcm_edits.proofs.Trees.Selection.{below_self, lesser_assoc, lesser_none}
+use Rattle.dcm_lemmas.proofs.Options.{some_same}
+use Rattle.dcm_lemmas.proofs.Choice.{if_false, if_true}
+use Rattle.dcm_lemmas.proofs.Truth.{true_false}
 use Rattle.dcm_base.specs.declared.tag.Tag.{Tag}
 use Rattle.dcm_base.specs.Tables.Tag.{same_tag, below}
 use Rattle.dcm_base.proofs.Dictionaries.TagOrder.{below_trans, tag_is, same_tag_self}
@@ -41,32 +45,14 @@ passing_tag gap no_element = refl
 passing_tag gap (new_leaf tag vr value) = if_tag (in_gap gap tag) _ _
 passing_tag gap (new_sequence tag held) = if_tag (in_gap gap tag) _ _
 
-if_yes : (b : Bool) (x y : Option Tag) → b ≡ true → (if b then x else y) ≡ x
-if_yes true x y e = refl
-if_yes false x y e = absurd cc
-
-if_no : (b : Bool) (x y : Option Tag) → b ≡ false → (if b then x else y) ≡ y
-if_no true x y e = absurd cc
-if_no false x y e = refl
-
-lesser_none : (a : Option Tag) → lesser a None ≡ a
-lesser_none None = refl
-lesser_none (Some a) = refl
-
 not_lower : (c b a : Tag) → below c b ≡ false → below b a ≡ false → below c a ≡ false
 not_lower c b a e f = grind (arith, nat_tests)
 
 lesser_three : (a b c : Tag) (x y : Bool) → below b a ≡ x → below c b ≡ y → lesser (if x then Some b else Some a) (Some c) ≡ lesser (Some a) (if y then Some c else Some b)
-lesser_three a b c true true e f = if_yes (below c b) (Some c) (Some b) f ∙ sym (if_yes (below c a) (Some c) (Some a) (below_trans c b a f e))
-lesser_three a b c true false e f = if_no (below c b) (Some c) (Some b) f ∙ sym (if_yes (below b a) (Some b) (Some a) e)
+lesser_three a b c true true e f = if_true (below c b) (Some c) (Some b) f ∙ sym (if_true (below c a) (Some c) (Some a) (below_trans c b a f e))
+lesser_three a b c true false e f = if_false (below c b) (Some c) (Some b) f ∙ sym (if_true (below b a) (Some b) (Some a) e)
 lesser_three a b c false true e f = refl
-lesser_three a b c false false e f = if_no (below c a) (Some c) (Some a) (not_lower c b a f e) ∙ sym (if_no (below b a) (Some b) (Some a) e)
-
-lesser_assoc : (a b c : Option Tag) → lesser (lesser a b) c ≡ lesser a (lesser b c)
-lesser_assoc None b c = refl
-lesser_assoc (Some a) None c = refl
-lesser_assoc (Some a) (Some b) None = lesser_none (lesser (Some a) (Some b))
-lesser_assoc (Some a) (Some b) (Some c) = lesser_three a b c (below b a) (below c b) refl refl
+lesser_three a b c false false e f = if_false (below c a) (Some c) (Some a) (not_lower c b a f e) ∙ sym (if_false (below b a) (Some b) (Some a) e)
 
 least_tag : (gap : Gap) (least : Seen) (es : List Edit) → tag_seen (asking.least_new gap least es) ≡ lesser (tag_seen least) (least_new (in_gap gap) es)
 least_tag gap least [] = sym (lesser_none (tag_seen least))
@@ -89,7 +75,7 @@ record IsFirst (gap : Gap) (least : Seen) (es : List Edit) (s : Seen) : Type 0 w
 abbrev Picked : Gap → Seen → List Edit → Seen → Type 0
 Picked gap least es s = (s ≡ least) ⊎ IsFirst gap least es s
 
-completed_seen : (es : List Edit) (w : NewElement) → seen (completed es w) ≡ seen w
+pub completed_seen : (es : List Edit) (w : NewElement) → seen (completed es w) ≡ seen w
 completed_seen es no_element = refl
 completed_seen es (new_leaf tag vr value) = refl
 completed_seen es (new_sequence tag held) = refl
@@ -139,12 +125,6 @@ above_lesser : (least x : Seen) (t : Tag) → is_above_seen (asking.lesser least
 above_lesser least nothing_new t p = p
 above_lesser least (a_value u vr value) t p = above_if least (a_value u vr value) u t (is_above_seen least u) refl refl p
 above_lesser least (a_sequence u) t p = above_if least (a_sequence u) u t (is_above_seen least u) refl refl p
-
-true_false : (b : Bool) → b ≡ true → b ≡ false → ⊥
-true_false b e f = cc
-
-below_self : (u : Tag) → below u u ≡ false
-below_self u = grind (arith, nat_tests)
 
 not_above_itself : (least s : Seen) (u : Tag) (a : Bool) → is_above_seen least u ≡ a → is_above_seen s u ≡ below u u → is_above_seen (if a then s else least) u ≡ true → ⊥
 not_above_itself least s u true e q p = true_false (is_above_seen s u) p (q ∙ below_self u)
@@ -196,9 +176,6 @@ some_new : {A : Type 0} (new : New A) → seen_of (Some new) ≡ nothing_new →
 some_new (news.Leaf e) q = cc
 some_new (news.Sequence tag) q = cc
 
-some_alike : (t u : Tag) → Some t ≡ Some u → t ≡ u
-some_alike t u e = cc
-
 -- nothing new lies in the gap
 pub none_in_gap : (gap : Gap) (es : List Edit) → nothing_new ≡ asking.least_new gap nothing_new es → least_new (in_gap gap) es ≡ None
 none_in_gap gap es q = sym (least_tag gap nothing_new es) ∙ ap tag_seen (sym q)
@@ -214,7 +191,7 @@ first_in_gap gap es new q = by_picked (picked gap nothing_new es)
     by_picked : Picked gap nothing_new es (asking.least_new gap nothing_new es) → seen (first_new (new_tag new) es) ≡ seen_of (Some new)
     by_picked (inl p) = absurd (some_new new (q ∙ p))
     by_picked (inr k) =
-        let same : k.tag ≡ new_tag new = some_alike k.tag (new_tag new) (sym k.has_tag ∙ ap tag_seen (sym q) ∙ tag_of_new new) in
+        let same : k.tag ≡ new_tag new = some_same k.tag (new_tag new) (sym k.has_tag ∙ ap tag_seen (sym q) ∙ tag_of_new new) in
         ap (λ (t : Tag). seen (first_new t es)) (sym same) ∙ sym k.is_first ∙ sym q
 
 -- a sequence of this tag

@@ -1,6 +1,8 @@
 -- A mask means what the edits ask, item by item.
 use Rattle.std.proofs.Common.{◌≡◌, ℕ, zero, suc, List, [], ◌∷◌, length, Option, Some, None, Bool, true, false, ◌&&◌, ◌||◌, refl, sym, ◌∙◌, ap, subst}
 use Rattle.std.specs.Prelude.{map, nat_lt, if◌then◌else◌}
+use Rattle.dcm_lemmas.proofs.Lists.{cons_alike}
+use Rattle.dcm_lemmas.proofs.Truth.{and_true}
 use Rattle.dcm_base.specs.declared.tag.Tag.{Tag}
 use Rattle.dcm_base.specs.declared.vr.Vr.{Vr}
 use Rattle.dcm_base.specs.declared.syntax.Syntax.{Syntax}
@@ -44,15 +46,12 @@ one_bit : (b g : Bool) (x : Bool) (d : ℕ) (e : Edit) (tag : Tag) (n : ℕ) →
 one_bit true g x d e tag n p q = ap (λ (y : Bool). if y then at_depth (suc d) e else elsewhere) (p ∙ q) ∙ sym (edit_goes_along d e tag n)
 one_bit false g x d e tag n p q = ap (λ (y : Bool). if y then at_depth (suc d) e else elsewhere) p
 
-edits_alike : (e f : Edit) (es fs : List Edit) → e ≡ f → es ≡ fs → e ∷ es ≡ f ∷ fs
-edits_alike e f es fs p q = cc
-
 -- the mask of an item means what the edits ask of it
 pub asked_within : (depth mask inner k : ℕ) (tag : Tag) (n : ℕ) (es : List Edit) → GoAlong depth mask inner tag n k es
     → asked (suc depth) inner k es ≡ all_within (asked depth mask k es) tag n
 asked_within depth mask inner k tag n [] g = refl
 asked_within depth mask inner k tag n (e ∷ es) g =
-    edits_alike _ _ _ _ (one_bit (is_set mask k) (goes_along (at_depth depth e) tag n) (is_set inner k) depth e tag n g.0 refl) (asked_within depth mask inner (suc k) tag n es g.1)
+    cons_alike _ _ _ _ (one_bit (is_set mask k) (goes_along (at_depth depth e) tag n) (is_set inner k) depth e tag n g.0 refl) (asked_within depth mask inner (suc k) tag n es g.1)
 
 at_top : (e : Edit) → at_depth 0 e ≡ e
 at_top (on_path p) = refl
@@ -68,7 +67,7 @@ if_set false e f p q = absurd cc
 -- at the top every edit is asked
 pub asked_first : (mask k : ℕ) (es : List Edit) → AllSet mask k es → asked 0 mask k es ≡ es
 asked_first mask k [] a = refl
-asked_first mask k (e ∷ es) a = edits_alike _ _ _ _ (if_set (is_set mask k) (at_depth 0 e) e a.0 (at_top e)) (asked_first mask (suc k) es a.1)
+asked_first mask k (e ∷ es) a = cons_alike _ _ _ _ (if_set (is_set mask k) (at_depth 0 e) e a.0 (at_top e)) (asked_first mask (suc k) es a.1)
 
 -- edits that are apart and public stay so within items
 pub asked_apart : (depth mask inner : ℕ) (tag : Tag) (n : ℕ) (es : List Edit) → GoAlong depth mask inner tag n 0 es → AreApart (asked depth mask 0 es) → AreApart (asked (suc depth) inner 0 es)
@@ -89,10 +88,6 @@ around_passes : (p : Tag → Bool) (tag : Tag) (x : NewElement) (m : Bool) → p
 around_passes p tag no_element m e = ap (λ (b : Bool). b && p tag) e
 around_passes p tag (new_leaf t vr value) m e = ap (λ (b : Bool). b && p tag) e
 around_passes p tag (new_sequence t held) m e = ap (λ (b : Bool). b && p tag) e
-
-and_true : (b : Bool) → (b && true) ≡ b
-and_true true = refl
-and_true false = refl
 
 -- whether the tag of a path's new element passes
 pub path_passes : (p : Tag → Bool) (edit : PathEdit) → passes_new p (new_element edit) ≡ (makes_element edit && p (first_tag edit))

@@ -1,8 +1,9 @@
 -- What is left of a path after some of its steps.
 use Rattle.std.proofs.Common.{◌≡◌, ℕ, zero, suc, ◌+◌, ◌<◌, ◌≤◌, List, [], ◌∷◌, length, drop, Option, Some, None, Bool, true, false, ◌&&◌, cond, refl, sym, ◌∙◌, ap, subst, arith}
 use Rattle.std.specs.List.{list_all}
-use Rattle.std.specs.Prelude.{◌==◌, if◌then◌else◌}
+use Rattle.std.specs.Prelude.{◌==◌}
 use Rattle.std.proofs.lemmas.Bool.Decides.{nat_tests}
+use Rattle.dcm_lemmas.proofs.Choice.{if_false, if_true}
 use Rattle.dcm_base.specs.declared.tag.Tag.{Tag}
 use Rattle.dcm_edits.specs.declared.edit.Index.{Index as AnIndex}
 use Rattle.dcm_edits.specs.declared.edit.Index.TheVariants as indexes
@@ -76,11 +77,8 @@ step_more (suc d) (modify t vr value) other u j e = cc
 step_more (suc d) (erase t) other u j e = cc
 step_more (suc d) (erase_item t i) other u j e = cc
 
-if_along : (b : Bool) (x y : Edit) → b ≡ true → (if b then x else y) ≡ x
-if_along b x y e = rw e refl
-
 along_path : (d : ℕ) (p q : PathEdit) (t : Tag) (n : ℕ) → rest_of_path d p ≡ q → goes_along (on_path q) t n ≡ true → within (on_path q) t n ≡ on_path (rest_of_path (suc d) p)
-along_path d p (step u i edit) t n is e = if_along (same_tag u t && selects i n) (on_path edit) elsewhere e ∙ ap on_path (sym (step_more d p edit u i is))
+along_path d p (step u i edit) t n is e = if_true (same_tag u t && selects i n) (on_path edit) elsewhere e ∙ ap on_path (sym (step_more d p edit u i is))
 along_path d p (insert u vr value) t n is e = absurd (let no : false ≡ true = e in cc)
 along_path d p (modify u vr value) t n is e = absurd (let no : false ≡ true = e in cc)
 along_path d p (erase u) t n is e = absurd (let no : false ≡ true = e in cc)
@@ -97,11 +95,8 @@ within_along d e t n g = within_step d e t n g ∙ ap (λ (k : ℕ). at_depth k 
     within_step d erase_private t n g = refl
     within_step d elsewhere t n g = refl
 
-if_not_along : (b : Bool) (x y : Edit) → b ≡ false → (if b then x else y) ≡ y
-if_not_along b x y e = rw e refl
-
 apart_path : (q : PathEdit) (t : Tag) (n : ℕ) → goes_along (on_path q) t n ≡ false → within (on_path q) t n ≡ elsewhere
-apart_path (step u i edit) t n e = if_not_along (same_tag u t && selects i n) (on_path edit) elsewhere e
+apart_path (step u i edit) t n e = if_false (same_tag u t && selects i n) (on_path edit) elsewhere e
 apart_path (insert u vr value) t n e = refl
 apart_path (modify u vr value) t n e = refl
 apart_path (erase u) t n e = refl

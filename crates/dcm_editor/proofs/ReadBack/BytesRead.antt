@@ -13,8 +13,8 @@ use Rattle.dcm_base.specs.Bytes.Spelling.{inside, FragmentsAt, TreesAt, ItemsAt,
 use Rattle.dcm_base.proofs.Conversions.Order.{order_twice}
 use Rattle.dcm_base.proofs.DumpsBack.Texts.{Bytes}
 use Rattle.dcm_base.proofs.DumpsBack.Numbers.{Bytes-append, Bytes-reverse}
-use Rattle.dcm_base.proofs.DumpsBack.Parts.{Bytes-take, Bytes-drop}
-use Rattle.dcm_sinks.proofs.ReadBack.Sources.{bytes_behind, bytes_parts, bytes_of_head, enclosed_ready}
+use Rattle.dcm_base.proofs.DumpsBack.Parts.{Bytes-take, Bytes-drop, Bytes-drop as bytes_behind}
+use Rattle.dcm_sinks.proofs.ReadBack.Sources.{bytes_parts, bytes_of_head, enclosed_ready}
 
 -- ---- values of bytes
 

@@ -12,6 +12,7 @@ use Rattle.dcm_base.specs.Conversion.Recode.{recode}
 use Rattle.dcm_base.specs.Steps.Steps.{outputs}
 use Rattle.dcm_base.specs.Steps.Atoms.{Atom, ends, front_atoms, is_closed, Shows}
 use Rattle.dcm_base.proofs.DataSets.Shown.{trees_shown, front_shown}
+use Rattle.dcm_sinks.proofs.ReadBack.RecodeReads.{longer}
 use Rattle.dcm_stream.specs.Ascending.{ascending}
 use Rattle.dcm_stream.specs.Reading.{end_shows}
 use Rattle.dcm_sinks.specs.EncodeSink.{encode_start, encode_step, encode_writes}
@@ -28,7 +29,7 @@ use Rattle.dcm_editor.proofs.ReadBack.RecodeAnew.{recode_anew}
 use Rattle.dcm_edits.proofs.Trees.Depths.{edited_shallow}
 use Rattle.dcm_editor.proofs.Trees.DepthAtoms.{front_shallow, front_stays, anew_shallow}
 use Rattle.dcm_editor.proofs.ReadBack.Rises.{KeepsOrder, in_order}
-use Rattle.dcm_editor.proofs.ReadBack.ReadsAscend.{longer, ReadAtoms, read_atoms, ascends_by, ascends_so_far_by}
+use Rattle.dcm_editor.proofs.ReadBack.ReadsAscend.{ReadAtoms, read_atoms, ascends_by, ascends_so_far_by}
 
 -- ---- edited and written
 

@@ -19,7 +19,7 @@ abbrev pub identity : List Atom → HeadBar
 identity atoms tag vr declared = if is_above tag (innermost (fold reached_after (None ∷ []) atoms)) then identity_fault tag else Some NotAscending
 
 -- two tests that bar tags alike, bar identity alike
-barred_alike : (a b : Bool) (fault : Option Fault) → cond {A = Option Fault} a None (Some NotAscending) ≡ cond b None (Some NotAscending) → cond {A = Option Fault} a fault (Some NotAscending) ≡ cond b fault (Some NotAscending)
+pub barred_alike : (a b : Bool) (fault : Option Fault) → cond {A = Option Fault} a None (Some NotAscending) ≡ cond b None (Some NotAscending) → cond {A = Option Fault} a fault (Some NotAscending) ≡ cond b fault (Some NotAscending)
 barred_alike true true fault e = refl
 barred_alike true false fault e = absurd cc
 barred_alike false true fault e = absurd cc
@@ -30,7 +30,7 @@ never true true = refl
 never true false = refl
 never false b = refl
 
-passed_above : (a : Bool) (fault : Option Fault) → cond a fault (Some NotAscending) ≡ None → a ≡ true
+pub passed_above : (a : Bool) (fault : Option Fault) → cond a fault (Some NotAscending) ≡ None → a ≡ true
 passed_above true fault e = refl
 passed_above false fault e = absurd cc
 

@@ -1,6 +1,5 @@
 -- What is read under a bar on tags that do not ascend, ascends.
-use Rattle.std.proofs.Common.{◌≡◌, ◌∙◌, ap, sym, subst, ℕ, ◌≤◌, List, [], ◌∷◌, ◌++◌, length, None, true, false, arith}
-use Rattle.std.proofs.lemmas.List.{length-append}
+use Rattle.std.proofs.Common.{◌≡◌, ◌∙◌, ap, sym, subst, ℕ, ◌≤◌, List, [], ◌∷◌, ◌++◌, None, true, false}
 use Rattle.dcm_base.specs.declared.syntax.Syntax.{Syntax}
 use Rattle.dcm_base.specs.Tree.Front.{Front, front, nothing_open, open_leaf, open_sequence, open_fragments}
 use Rattle.dcm_base.specs.Lines.Ascending.{FrontAscends}
@@ -8,9 +7,10 @@ use Rattle.dcm_base.specs.Bytes.Spelling.{SpellsFront}
 use Rattle.dcm_base.specs.Reading.Stop.{Bar, HeadBar, Stop, complete, refused}
 use Rattle.dcm_base.specs.Reading.Reads.{INPUT_LIMIT, Reads, ended}
 use Rattle.dcm_base.specs.Reading.Bars.{ascending_bar}
-use Rattle.dcm_base.specs.Steps.Atoms.{Atom, ends, front_atoms, is_closed}
+use Rattle.dcm_base.specs.Steps.Atoms.{Atom, front_atoms, is_closed}
 use Rattle.dcm_base.proofs.DataSets.OneAnswer.{reads_once}
 use Rattle.dcm_base.proofs.DataSets.Shown.{front_shown}
+use Rattle.dcm_sinks.proofs.ReadBack.RecodeReads.{longer}
 use Rattle.dcm_stream.specs.Ascending.{ascending}
 use Rattle.dcm_stream.specs.Reading.{read_all, finish, end_shows}
 use Rattle.dcm_stream.proofs.Steps.Follows.{answers}
@@ -19,9 +19,6 @@ use Rattle.dcm_editor.proofs.ReadBack.Rises.{KeepsOrder, Rises, in_order, machin
 use Rattle.dcm_editor.proofs.ReadBack.Ascends.{front_ascends}
 
 -- ---- an end without fault comes where nothing is open
-
-pub longer : (xs : List Atom) → xs ++ ends ∷ [] ≡ xs → ⊥
-longer xs e = omega (arith, ap length e, length-append xs (ends ∷ []))
 
 ended_ascends : (s : Syntax) (stop : Stop) (g : Front) (atoms : List Atom) → atoms ≡ front_atoms s g → atoms ++ end_shows stop ≡ front_atoms s (ended stop g) → FrontAscends g → FrontAscends (ended stop g)
 unfolding front_atoms

@@ -16,14 +16,14 @@ use Rattle.dcm_base.specs.Tables.Number.{number}
 use Rattle.dcm_base.specs.Tables.Tag.{is_above, is_item}
 use Rattle.dcm_base.specs.Bytes.Head.{tag_at, vr_at, length_at, long_length}
 use Rattle.dcm_base.specs.Bytes.Spelling.{form, read_as}
-use Rattle.dcm_base.specs.Reading.Stop.{Stop, Bar, HeadBar, innermost_stop, is_early_bar, is_undecided}
+use Rattle.dcm_base.specs.Reading.Stop.{Stop, Bar, HeadBar, innermost_stop, is_undecided}
 use Rattle.dcm_base.specs.Reading.Bars.{ascending_bar}
 use Rattle.dcm_base.specs.Reading.Reads.{INPUT_LIMIT}
 use Rattle.dcm_base.specs.Steps.Atoms.{Atom, opens, value_byte, closes_leaf, opens_item, closes_item, closes_sequence, opens_fragment, ends}
 use Rattle.dcm_stream.specs.Ascending.{reached_after, innermost, ascending}
 use Rattle.dcm_stream.specs.Follows.{BarsAs}
 use Rattle.dcm_stream.proofs.Heads.Stops.{NeverEarly}
-use Rattle.dcm_stream.proofs.Steps.Ascending.{ascending_bars}
+use Rattle.dcm_stream.proofs.Steps.Ascending.{ascending_bars, never}
 use Rattle.dcm_stream.specs.Reading.{Reading, start_of, Opened, closing, size_of, ends_at, closes, element_opens, item_opens, plain_opens, head_opens, full_closed, settled, head_read, byte_read, read_byte, reads_byte, read_all, without_value, value_left, sign_reads}
 use Rattle.dcm_sinks.proofs.ReadBack.Accepted.{Accepted, AllAccepted, byte_accepted}
 
@@ -202,10 +202,6 @@ module _ (bars : List Atom → HeadBar) (bar : Bar) (k : KeepsOrder bars bar) wh
 unbarred : (b : Bool) → cond {A = Option Fault} b None (Some NotAscending) ≡ None → b ≡ true
 unbarred true e = refl
 unbarred false e = absurd cc
-
-never : (b : Bool) → is_early_bar (cond b None (Some NotAscending)) ≡ false
-never true = refl
-never false = refl
 
 pub in_order : KeepsOrder ascending ascending_bar
 in_order = record {

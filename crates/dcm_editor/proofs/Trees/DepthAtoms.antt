@@ -9,7 +9,7 @@ use Rattle.dcm_base.specs.Tree.Value.{order}
 use Rattle.dcm_base.specs.Steps.Atoms.{Atom, value_byte, closes_leaf, opens_item, closes_item, closes_sequence, opens_fragment, ends, fragments_then, ShowTrees, ShowItems, open_fragment_atoms, end_atoms, Shows, ShowsOpen, ShowsOpenItem}
 use Rattle.dcm_sinks.specs.Laws.{lists_behind, StaysShallow}
 use Rattle.dcm_sinks.proofs.Dumps.OpenLists.{stays_on, stays_opened, stays_bytes, stays_fragments, stays_same, stays_trees, stays_items}
-use Rattle.dcm_sinks.proofs.ReadBack.Shallow.{leads_nowhere, leads_more}
+use Rattle.dcm_sinks.proofs.ReadBack.Shallow.{leads_more, shallow_none}
 use Rattle.dcm_sinks.proofs.ReadBack.Sources.{lists_of}
 use Rattle.dcm_base.specs.Steps.Anew.{reached_anew, open_anew, item_anew}
 use Rattle.dcm_edits.proofs.Trees.Depths.{IsShallow, AreShallow, FrontShallow, OpenShallow, ItemShallow}
@@ -66,9 +66,6 @@ mutual
 
 -- ---- back to the atoms
 
-stays_none : (n : ℕ) → n ≤ 64 → StaysShallow n []
-stays_none n h = (leads_nowhere n h).shallow
-
 stays_more : (n k : ℕ) (a : Atom) (atoms : List Atom) → n ≤ 64 → lists_behind n a ≡ k → StaysShallow k atoms → StaysShallow n (a ∷ atoms)
 stays_more n k a atoms h e more = (leads_more n k (fold lists_behind k atoms) a atoms h e (record { comes = refl; shallow = more })).shallow
 
@@ -107,11 +104,11 @@ mutual
       (trees_stay set n contents (closes_item ∷ others) inner h d.0 (stays_more n n closes_item others h refl (items_stay rest n others after w h d.1 more))))
 
 open_bytes_stay : (n : ℕ) (v : List ℕ) → n ≤ 64 → StaysShallow n (map value_byte v)
-open_bytes_stay n [] h = stays_none n h
+open_bytes_stay n [] h = shallow_none n h
 open_bytes_stay n (b ∷ v) h = stays_more n n (value_byte b) _ h refl (open_bytes_stay n v h)
 
 open_fragment_stays : (n : ℕ) (last : Option (ℕ × List ℕ)) → n ≤ 64 → StaysShallow n (open_fragment_atoms last)
-open_fragment_stays n None h = stays_none n h
+open_fragment_stays n None h = shallow_none n h
 open_fragment_stays n (Some fragment) h = stays_more n n (opens_fragment fragment.0) _ h refl (open_bytes_stay n fragment.1 h)
 
 mutual
@@ -121,8 +118,8 @@ mutual
   front_stays (front whole o reached closed) n atoms (others, w, shown, may, re) h d = trees_stay whole n atoms others w h d.0 (open_stays o n closed others shown h d.1)
 
   open_stays : (o : OpenTree) (n : ℕ) (c : Bool) (atoms : List Atom) → ShowsOpen o (end_atoms c) atoms → n ≤ 64 → OpenShallow n o → StaysShallow n atoms
-  open_stays nothing_open n true atoms w h d = moved n atoms _ w (stays_more n n ends [] h refl (stays_none n h))
-  open_stays nothing_open n false atoms w h d = moved n atoms _ w (stays_none n h)
+  open_stays nothing_open n true atoms w h d = moved n atoms _ w (stays_more n n ends [] h refl (shallow_none n h))
+  open_stays nothing_open n false atoms w h d = moved n atoms _ w (shallow_none n h)
   open_stays (open_leaf tag vr size value) n c atoms (s, fo, le, is) h d =
       moved n atoms _ is (stays_more n n _ _ h (lists_of n a_value tag vr (Known size) s fo) (open_bytes_stay n (order s vr value) h))
   open_stays (open_sequence tag vr declared items last) n c atoms (s, contents, others, fo, is, inner, w) h d =
@@ -133,7 +130,7 @@ mutual
       (fragments_stay (suc n) values (open_fragment_atoms last) d (open_fragment_stays (suc n) last d)))
 
   open_item_stays : (o : OpenItem) (n : ℕ) (atoms : List Atom) → ShowsOpenItem o atoms → n ≤ 64 → ItemShallow n o → StaysShallow n atoms
-  open_item_stays no_open_item n atoms w h d = moved n atoms _ w (stays_none n h)
+  open_item_stays no_open_item n atoms w h d = moved n atoms _ w (shallow_none n h)
   open_item_stays (open_item declared set) n atoms (contents, is, still, w) h d =
       moved n atoms _ is (stays_more n n (opens_item declared) contents h refl (front_stays set n contents w h d))
 

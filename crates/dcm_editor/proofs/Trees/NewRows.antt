@@ -11,7 +11,9 @@ use Rattle.dcm_base.specs.Steps.Atoms.{Atom, opens, opens_item, closes_item, clo
 use Rattle.dcm_base.specs.Bytes.Spelling.{inside}
 use Rattle.dcm_base.specs.Tree.Tree.{Trees, no_tree, leaf, then_trees}
 use Rattle.dcm_base.proofs.DataSets.Row.{trees_then-append, trees_then-then}
-use Rattle.dcm_base.proofs.Dictionaries.TagOrder.{tag_is, below_other_way}
+use Rattle.dcm_base.proofs.Dictionaries.TagOrder.{tag_is}
+use Rattle.dcm_editor.proofs.Masks.LeastNew.{completed_seen}
+use Rattle.dcm_edits.proofs.Trees.NewOnes.{same_not_above}
 use Rattle.dcm_edits.specs.Edit.{PathEdit, step, insert, modify, erase, erase_item, Edit, on_path, modify_all, erase_all, erase_private, elsewhere, NewElement, no_element, new_leaf, new_sequence, new_element, element_of, before}
 use Rattle.dcm_edits.specs.Together.{completed}
 use Rattle.dcm_edits.specs.NewOnes.{puts, passes_new, any_new, least_new, first_new}
@@ -111,11 +113,6 @@ edit_left depth tag true (erase_all t) q = absurd (no_sequence tag q)
 edit_left depth tag true erase_private q = absurd (no_sequence tag q)
 edit_left depth tag true elsewhere q = absurd (no_sequence tag q)
 
-completed_seen : (es : List Edit) (w : NewElement) → seen (completed es w) ≡ seen w
-completed_seen es no_element = refl
-completed_seen es (new_leaf tag vr value) = refl
-completed_seen es (new_sequence tag held) = refl
-
 pub short_of : (depth mask k : ℕ) (tag : Tag) (es : List Edit) → AreShort es → seen (first_new tag (asked depth mask k es)) ≡ a_sequence tag → depth < 64
 short_of depth mask k tag [] s q = absurd (no_sequence tag q)
 short_of depth mask k tag (e ∷ es) s q =
@@ -163,20 +160,10 @@ less_if true b true e f g = absurd cc
 less_if true b false e f g = omega arith
 less_if false b c e f g = absurd cc
 
-not_below : (t u : Tag) → same_tag t u ≡ true → below t u ≡ false
-not_below t u e = by_test (below t u) refl
-  where
-    both : (b : Bool) → b ≡ true → b ≡ false → ⊥
-    both b x y = cc
-
-    by_test : (b : Bool) → below t u ≡ b → b ≡ false
-    by_test true f = absurd (both (same_tag t u) e (below_other_way t u f))
-    by_test false f = refl
-
 one_less : (p q : Tag → Bool) (t : Tag) (w : NewElement) → Above q p t → p t ≡ true → passes_new (same_tag t) w ≡ true → one_if (passes_new q w) < one_if (passes_new p w)
 one_less p q t no_element above h e = absurd cc
-one_less p q t (new_leaf u vr value) above h e = less_if (p u) (below t u) (q u) (above u) (ap p (sym (tag_is t u e)) ∙ h) (not_below t u e)
-one_less p q t (new_sequence u held) above h e = less_if (p u) (below t u) (q u) (above u) (ap p (sym (tag_is t u e)) ∙ h) (not_below t u e)
+one_less p q t (new_leaf u vr value) above h e = less_if (p u) (below t u) (q u) (above u) (ap p (sym (tag_is t u e)) ∙ h) (same_not_above t u e)
+one_less p q t (new_sequence u held) above h e = less_if (p u) (below t u) (q u) (above u) (ap p (sym (tag_is t u e)) ∙ h) (same_not_above t u e)
 
 fewer : (p q : Tag → Bool) (t : Tag) (es : List Edit) → Above q p t → p t ≡ true → any_new (same_tag t) es ≡ true → new_count q es < new_count p es
 fewer p q t [] above h e = absurd cc

@@ -1,6 +1,8 @@
 -- A data set as far as it was read, as all edits at once leave it, in the order of its elements.
 use Rattle.std.proofs.Common.{◌≡◌, List, [], ◌∷◌, Option, Some, None, Bool, true, false, not, ◌||◌, ◌&&◌, refl, sym, ◌∙◌, ap}
 use Rattle.std.specs.Prelude.{if◌then◌else◌}
+use Rattle.dcm_lemmas.proofs.Choice.{if_true}
+use Rattle.dcm_lemmas.proofs.Truth.{and_second_false, or_false}
 use Rattle.dcm_base.specs.declared.tag.Tag.{Tag}
 use Rattle.dcm_base.specs.Tree.Tree.{Trees, no_tree, leaf, sequence, fragments, then_trees}
 use Rattle.dcm_base.specs.Tree.Front.{Front, front, OpenTree, nothing_open, open_leaf, open_sequence, open_fragments}
@@ -11,11 +13,11 @@ use Rattle.dcm_edits.specs.Together.{completed, first_fate, all_changed, all_ope
 use Rattle.dcm_edits.specs.Overlap.{AreApart, ArePublic}
 use Rattle.dcm_base.specs.Lines.Ascending.{Ascend, ReachedLast, OpenAscends}
 use Rattle.dcm_base.proofs.Dictionaries.TagOrder.{below_other_way}
-use Rattle.dcm_edits.proofs.Trees.Laws.{or_false, then_trees-none}
+use Rattle.dcm_edits.proofs.Trees.Laws.{then_trees-none}
 use Rattle.dcm_base.specs.Bytes.Spelling.{last_tag, reached_tag}
 use Rattle.dcm_base.specs.Steps.Atoms.{is_closed}
 use Rattle.dcm_base.specs.Steps.Anew.{reached_anew}
-use Rattle.dcm_edits.proofs.Trees.NewOnes.{below_not_back, has_more, off, and_all, and_none}
+use Rattle.dcm_edits.proofs.Trees.NewOnes.{below_not_back, has_more, off, and_all}
 use Rattle.dcm_edits.proofs.Trees.Kept.{kept, puts_alike, puts_none, kept_within, followed_twice, under_all, under_tag, under_last}
 
 -- ---- which new ones pass
@@ -77,12 +79,9 @@ low_puts u (e ∷ es) a m h =
 or_both_false : (a : Bool) → a ≡ false → (a || false) ≡ false
 or_both_false a p = cc
 
-if_is_true : (b : Bool) (x y : Trees) → b ≡ true → (if b then x else y) ≡ x
-if_is_true b x y p = rw p refl
-
 made_high : (f : Fate) (u : Tag) → IsHigh u (made_whole f u)
 made_high stays u = ((λ t p. refl), (λ t w p. refl))
-made_high (becomes vr value) u = ((λ t p. or_both_false (same_tag t u) (below_other_way t u p)), (λ t w p. if_is_true (below t u) _ _ p))
+made_high (becomes vr value) u = ((λ t p. or_both_false (same_tag t u) (below_other_way t u p)), (λ t w p. if_true (below t u) _ _ p))
 made_high goes u = ((λ t p. refl), (λ t w p. refl))
 
 -- ---- what follows the whole elements
@@ -132,7 +131,7 @@ not_between : (t u : Tag) → (below u t && below t u) ≡ false
 not_between t u = by_test (below u t) refl
   where
     by_test : (b : Bool) → below u t ≡ b → (below u t && below t u) ≡ false
-    by_test true e = and_none (below u t) (below t u) (below_not_back u t e)
+    by_test true e = and_second_false (below u t) (below t u) (below_not_back u t e)
     by_test false e = rw e refl
 
 unfinished_by : (es : List Edit) (whole : Trees) (r : Option Tag) → last_tag None whole ≡ r → AreApart es → ArePublic es → Ascend None whole
@@ -164,7 +163,7 @@ open_passes o tag whole r c t h l =
   where
     by_test : (b : Bool) → below t tag ≡ b → (not (has_open t o) && (below t tag || false)) ≡ below t tag
     by_test true e = let f : has_open t o ≡ false = h t e in rw (f, e) refl
-    by_test false e = and_none (not (has_open t o)) (below t tag || false) (or_both_false (below t tag) e) ∙ sym e
+    by_test false e = and_second_false (not (has_open t o)) (below t tag || false) (or_both_false (below t tag) e) ∙ sym e
 
 open_tail : (es : List Edit) (o : OpenTree) (tag : Tag) (whole : Trees) (r : Option Tag) (c : Bool) → AreApart es → ArePublic es → Ascend None whole → ReachedLast tag whole r c → NotLow tag o
     → puts (passes o r c) es (then_trees (all_changed es whole) (made_whole (first_fate es tag) tag)) ≡ then_trees (kept es None whole) (tail_by es (last_tag None whole) tag)

@@ -1,7 +1,8 @@
 -- What is written of edited bytes is bytes, where the new values are.
-use Rattle.std.proofs.Common.{ℕ, zero, suc, ◌<◌, ◌%◌, ◌/◌, List, [], ◌∷◌, ◌++◌, length, Bool, true, false, arith}
-use Rattle.std.specs.Prelude.{if◌then◌else◌, ◌&&◌, ◌==◌, ◌^◌, flat_map}
-use Rattle.std.specs.Int.{Width, w16, w32, byte_at, byte_len, bytes_low_first, bytes_high_first}
+use Rattle.std.proofs.Common.{ℕ, zero, suc, ◌<◌, ◌%◌, List, [], ◌∷◌, ◌++◌, length, Bool, true, false, arith}
+use Rattle.std.specs.Prelude.{if◌then◌else◌, ◌&&◌, ◌==◌, flat_map}
+use Rattle.std.specs.Int.{Width, w16, w32, byte_len, bytes_low_first, bytes_high_first}
+use Rattle.dcm_lemmas.proofs.Numbers.{byte_below}
 use Rattle.dcm_base.specs.declared.tag.Tag.{Tag}
 use Rattle.dcm_base.specs.declared.vr.Vr.{Vr}
 use Rattle.dcm_base.specs.declared.vr.Vr.TheVariants.{AE, SQ, UN}
@@ -74,7 +75,7 @@ before_bytes no_element set h k = k
 before_bytes (new_leaf t vr v) set h k = (h, k)
 before_bytes (new_sequence t held) set h k = ((h, tt), k)
 
-if_holds : (b : Bool) (x y : Trees) → HoldsBytes x → HoldsBytes y → HoldsBytes (if b then x else y)
+pub if_holds : (b : Bool) (x y : Trees) → HoldsBytes x → HoldsBytes y → HoldsBytes (if b then x else y)
 if_holds true x y h k = h
 if_holds false x y h k = k
 
@@ -173,17 +174,13 @@ edited_bytes (e ∷ es) set r k = edited_bytes es (edited_set e set) r.1 (with_b
 
 -- ---- what is written
 
-at_byte : (i n : ℕ) → byte_at i n < 256
-at_byte zero n = omega arith
-at_byte (suc i) n = let m : ℕ = n / 256 ^ suc i in omega arith
-
 pub low_bytes : (i k n : ℕ) → Bytes (bytes_low_first i k n)
 low_bytes i zero n = tt
-low_bytes i (suc k) n = (at_byte i n, low_bytes (suc i) k n)
+low_bytes i (suc k) n = (byte_below i n, low_bytes (suc i) k n)
 
 high_bytes : (k n : ℕ) → Bytes (bytes_high_first k n)
 high_bytes zero n = tt
-high_bytes (suc k) n = (at_byte k n, high_bytes k n)
+high_bytes (suc k) n = (byte_below k n, high_bytes k n)
 
 number_of_bytes : (s : Syntax) (w : Width) (n : ℕ) → Bytes (number_bytes s w n)
 number_of_bytes (implicit_in d) w n = low_bytes 0 (byte_len w) n
@@ -217,7 +214,7 @@ pad_byte : (vr : Vr) → pad vr < 256
 pad_byte AE = omega arith
 pad_byte _ = omega arith
 
-if_bytes : (c : Bool) (x y : List ℕ) → Bytes x → Bytes y → Bytes (if c then x else y)
+pub if_bytes : (c : Bool) (x y : List ℕ) → Bytes x → Bytes y → Bytes (if c then x else y)
 if_bytes true x y h k = h
 if_bytes false x y h k = k
 

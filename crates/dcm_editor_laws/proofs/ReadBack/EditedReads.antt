@@ -42,7 +42,7 @@ front_whole s start bytes f le are reads =
     let read : Reads (target_bar (plain s)) s start bytes f complete = plain_read s start bytes f complete (own s start bytes f reads) in
     read_ready (plain s) s start bytes f le are read (plain_fits s (target_bar (plain s)) start bytes f complete read)
 
-room : (s : Syntax) (f : Front) → IsReady s f → FrontReady s f
+pub room : (s : Syntax) (f : Front) → IsReady s f → FrontReady s f
 room s f r = subst (FrontReady s) (sym r.is) (r.ready, refl)
 
 pub front_ready : (s : Syntax) (start : ℕ) (bytes : List ℕ) (f : Front) → start ≤ INPUT_LIMIT → AreBytes bytes → Reads ascending_bar s start bytes f complete → FrontReady (plain s) f

@@ -84,7 +84,7 @@ free tag vr declared = None
 abbrev above : Option Tag → HeadBar
 above last tag vr declared = if is_above tag last then None else Some NotAscending
 
-case_alike : (t : Bool) (stop : Stop) (a b : Option Stop) (P : Type 0) → ((b ≡ None → P) → a ≡ b) → ((if t then Some stop else b) ≡ None → P) → (if t then Some stop else a) ≡ (if t then Some stop else b)
+pub case_alike : (t : Bool) (stop : Stop) (a b : Option Stop) (P : Type 0) → ((b ≡ None → P) → a ≡ b) → ((if t then Some stop else b) ≡ None → P) → (if t then Some stop else a) ≡ (if t then Some stop else b)
 case_alike true stop a b P h k = refl
 case_alike false stop a b P h k = h k
 
@@ -92,11 +92,11 @@ last_alike : (position : ℕ) (c : Bool) → (first_case (barred None position) 
 last_alike position true k = refl
 last_alike position false k = absurd (let e : false ≡ true = k refl in cc)
 
-after_alike : (before a b : Option Stop) (P : Type 0) → ((b ≡ None → P) → a ≡ b) → (or_else before b ≡ None → P) → or_else before a ≡ or_else before b
+pub after_alike : (before a b : Option Stop) (P : Type 0) → ((b ≡ None → P) → a ≡ b) → (or_else before b ≡ None → P) → or_else before a ≡ or_else before b
 after_alike None a b P h k = h k
 after_alike (Some stop) a b P h k = refl
 
-third_false : (a b c : Bool) (x y z : Stop) (more : Option Stop) → (if a then Some x else (if b then Some y else (if c then Some z else more))) ≡ None → c ≡ false
+pub third_false : (a b c : Bool) (x y z : Stop) (more : Option Stop) → (if a then Some x else (if b then Some y else (if c then Some z else more))) ≡ None → c ≡ false
 third_false true b c x y z more e = absurd (cc)
 third_false false true c x y z more e = absurd (cc)
 third_false false false true x y z more e = absurd (cc)

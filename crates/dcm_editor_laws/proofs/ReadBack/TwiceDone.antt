@@ -1,6 +1,7 @@
 -- What an edit has done to a data set, it need not do again.
 use Rattle.std.proofs.Common.{◌≡◌, ℕ, zero, suc, List, length, Bool, true, false, refl, sym, ap, subst}
 use Rattle.std.specs.Prelude.{if◌then◌else◌, ◌&&◌, ◌||◌}
+use Rattle.dcm_lemmas.proofs.Truth.{or_second}
 use Rattle.dcm_base.specs.declared.tag.Tag.{Tag}
 use Rattle.dcm_base.specs.declared.vr.Vr.{Vr}
 use Rattle.dcm_base.specs.declared.syntax.Syntax.{Syntax}
@@ -42,10 +43,6 @@ abbrev pub SetDone : Syntax → Edit → Trees → Type 0
 SetDone s e set = Done s e set × IsThere (element_of e) set
 
 -- ---- tests
-
-pub either : (a b : Bool) → b ≡ true → (a || b) ≡ true
-either true b e = refl
-either false b e = e
 
 pub here : (t : Tag) (b : Bool) → (same_tag t t || b) ≡ true
 here t b = ap (λ (c : Bool). c || b) (same_tag_self t)
@@ -113,9 +110,9 @@ module _ (s : Syntax) where
 
 has_put : (t : Tag) (x : NewElement) (set : Trees) → ((rest : Trees) → has t (before x rest) ≡ true) → has t (put t x set) ≡ true
 has_put t x no_tree h = h no_tree
-has_put t x (leaf u vr v rest) h = chosen (λ (y : Trees). has t y ≡ true) (below t u) _ _ (λ p. h _) (λ p. either (same_tag t u) _ (has_put t x rest h))
-has_put t x (sequence u vr declared items rest) h = chosen (λ (y : Trees). has t y ≡ true) (below t u) _ _ (λ p. h _) (λ p. either (same_tag t u) _ (has_put t x rest h))
-has_put t x (fragments u vr values rest) h = chosen (λ (y : Trees). has t y ≡ true) (below t u) _ _ (λ p. h _) (λ p. either (same_tag t u) _ (has_put t x rest h))
+has_put t x (leaf u vr v rest) h = chosen (λ (y : Trees). has t y ≡ true) (below t u) _ _ (λ p. h _) (λ p. or_second (same_tag t u) _ (has_put t x rest h))
+has_put t x (sequence u vr declared items rest) h = chosen (λ (y : Trees). has t y ≡ true) (below t u) _ _ (λ p. h _) (λ p. or_second (same_tag t u) _ (has_put t x rest h))
+has_put t x (fragments u vr values rest) h = chosen (λ (y : Trees). has t y ≡ true) (below t u) _ _ (λ p. h _) (λ p. or_second (same_tag t u) _ (has_put t x rest h))
 
 pub is_there : (x : NewElement) (set : Trees) → IsThere x (with_new x set)
 is_there no_element set = tt

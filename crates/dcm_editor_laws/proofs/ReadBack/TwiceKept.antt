@@ -2,19 +2,21 @@
 use Rattle.std.proofs.Common.{◌≡◌, ℕ, zero, suc, List, [], ◌∷◌, Bool, true, false, refl, sym, ◌∙◌, ap, subst, arith}
 use Rattle.std.specs.Prelude.{if◌then◌else◌, not, ◌&&◌, ◌||◌, ◌==◌}
 use Rattle.std.proofs.lemmas.Bool.Decides.{nat_tests}
+use Rattle.dcm_lemmas.proofs.Numbers.{after_is_not_zero}
+use Rattle.dcm_lemmas.proofs.Truth.{and_first, and_second, not_true, or_second}
 use Rattle.dcm_base.specs.declared.tag.Tag.{Tag}
 use Rattle.dcm_base.specs.declared.vr.Vr.{Vr}
 use Rattle.dcm_base.specs.declared.syntax.Syntax.{Syntax}
 use Rattle.dcm_base.specs.Tables.Tag.{below, same_tag, is_private}
 use Rattle.dcm_base.specs.Tree.Tree.{Trees, no_tree, leaf, sequence, fragments, Items, no_item, item}
-use Rattle.dcm_base.proofs.Dictionaries.TagOrder.{same_tag_self, same_tag_sym, tag_is, number_is}
+use Rattle.dcm_base.proofs.Dictionaries.TagOrder.{same_tag_self, same_tag_sym, tag_is}
 use Rattle.dcm_edits.specs.Edit.{Index, number, every, PathEdit, step, insert, modify, erase, erase_item, Edit, on_path, modify_all, erase_all, erase_private, elsewhere, within, Fate, stays, becomes, goes, fate, settled, erases, has, put, NewElement, no_element, new_leaf, new_sequence, before, around, new_element, element_of, with_new, changed, changed_items, edited_set, edited_sets}
 use Rattle.dcm_edits.specs.Overlap.{Mark, at_tag, at_index, path, same_index, same_mark, ends, is_every, clash, meets, overlaps, ApartFrom, AreApart, is_public, ArePublic}
 use Rattle.dcm_editor_laws.specs.Repeating.{erases_by_number, EraseByNoNumber}
 use Rattle.dcm_edits.proofs.Trees.Laws.{chosen, cond_alike}
-use Rattle.dcm_edits.proofs.Overlapping.Places.{IfBecomes, quiet, quiet_ends, within_apart, within_public, and_left, and_right, not_true, same_tag_false}
+use Rattle.dcm_edits.proofs.Overlapping.Places.{IfBecomes, quiet, quiet_ends, within_apart, within_public, same_tag_false}
 use Rattle.dcm_edits.proofs.Overlapping.Items.{quiet_step, keeps_items}
-use Rattle.dcm_editor_laws.proofs.ReadBack.TwiceDone.{LeafDone, IsThere, Done, ItemsDone, SetDone, either, number_within, all_go, new_leaf_done, new_sequence_done, edit_done}
+use Rattle.dcm_editor_laws.proofs.ReadBack.TwiceDone.{LeafDone, IsThere, Done, ItemsDone, SetDone, number_within, all_go, new_leaf_done, new_sequence_done, edit_done}
 
 -- ---- whether edits overlap does not depend on their order
 
@@ -117,8 +119,8 @@ has_changed b t (fragments u vr values rest) never h = settled_has b t u (fragme
 
 has_before : (t : Tag) (x : NewElement) (set : Trees) → has t set ≡ true → has t (before x set) ≡ true
 has_before t no_element set h = h
-has_before t (new_leaf u vr v) set h = either (same_tag t u) _ h
-has_before t (new_sequence u held) set h = either (same_tag t u) _ h
+has_before t (new_leaf u vr v) set h = or_second (same_tag t u) _ h
+has_before t (new_sequence u held) set h = or_second (same_tag t u) _ h
 
 has_put : (t u : Tag) (x : NewElement) (set : Trees) → has t set ≡ true → has t (put u x set) ≡ true
 has_put t u x no_tree h = absurd (cc)
@@ -159,7 +161,7 @@ pub as_it_stays : (b : Edit) (t : Tag) → fate b t ≡ stays → IsNotErased b 
 as_it_stays b t h g = absurd (let e : stays ≡ goes = sym h ∙ g in cc)
 
 first_public : (t : Tag) (c : Bool) → (not (is_private t) && c) ≡ true → is_private t ≡ false
-first_public t c h = not_true (is_private t) (and_left (not (is_private t)) c h)
+first_public t c h = not_true (is_private t) (and_first (not (is_private t)) c h)
 
 insert_stays : (t : Tag) (vr : Vr) (v : List ℕ) (b : Edit) → Beside (on_path (insert t vr v)) b → fate b t ≡ stays
 insert_stays t vr v b w = quiet_ends t t (insert t vr v) b refl (same_tag_self t) (first_public t true w.2) w.0
@@ -196,18 +198,15 @@ every_clashes : (c : Bool) → (if c then true else false) ≡ false → c ≡ t
 every_clashes true h e = absurd (cc)
 every_clashes false h e = absurd (cc)
 
-no_other : (k : ℕ) → (suc k == 0) ≡ true → ⊥
-no_other k e = omega (arith, number_is (suc k) 0 e)
-
 empty_inside : (e : Edit) (t : Tag) (p : PathEdit) (set : Trees) → overlaps (on_path (step t (number zero) p)) e ≡ false → (t.element == 0) ≡ false → has t set ≡ false
     → IsThere (element_of e) set → IsThere (element_of (within e t 0)) no_tree
 empty_inside (on_path (step u (number zero) q)) t p set o g out h =
     if_selected (same_tag u t && (zero == 0)) q
-    (λ c. let is : u ≡ t = tag_is u t (and_left _ _ c) in
+    (λ c. let is : u ≡ t = tag_is u t (and_first _ _ c) in
     around_empty t (new_element q) set g out (subst (λ (x : Tag). IsThere (around x (new_element q)) set) is h))
-empty_inside (on_path (step u (number (suc k)) q)) t p set o g out h = if_selected (same_tag u t && (suc k == 0)) q (λ c. absurd (no_other k (and_right _ _ c)))
+empty_inside (on_path (step u (number (suc k)) q)) t p set o g out h = if_selected (same_tag u t && (suc k == 0)) q (λ c. absurd (after_is_not_zero k (and_second _ _ c)))
 empty_inside (on_path (step u every q)) t p set o g out h =
-    if_selected (same_tag u t && true) q (λ c. absurd (every_clashes (same_tag t u) o (same_tag_sym u t (and_left _ _ c))))
+    if_selected (same_tag u t && true) q (λ c. absurd (every_clashes (same_tag t u) o (same_tag_sym u t (and_first _ _ c))))
 empty_inside (on_path (insert u vr v)) t p set o g out h = tt
 empty_inside (on_path (modify u vr v)) t p set o g out h = tt
 empty_inside (on_path (erase u)) t p set o g out h = tt

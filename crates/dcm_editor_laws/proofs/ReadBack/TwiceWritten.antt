@@ -1,6 +1,7 @@
 -- Edits that have done what they do write the same again, of the data set and of its normal form.
 use Rattle.std.proofs.Common.{◌≡◌, ℕ, zero, suc, ◌≤◌, List, [], ◌∷◌, length, map, Option, Some, None, Bool, true, false, Ok, refl, sym, ◌∙◌, ap, subst, append-nil}
 use Rattle.std.specs.Prelude.{if◌then◌else◌, not, ◌||◌, ◌==◌}
+use Rattle.dcm_lemmas.proofs.Truth.{or_true}
 use Rattle.dcm_base.specs.declared.tag.Tag.{Tag}
 use Rattle.dcm_base.specs.declared.vr.Vr.{Vr}
 use Rattle.dcm_base.specs.declared.syntax.Syntax.{Syntax}
@@ -17,7 +18,7 @@ use Rattle.dcm_base.specs.Reading.Reads.{INPUT_LIMIT, Reads}
 use Rattle.dcm_base.specs.Conversion.Recode.{recode, recode_set}
 use Rattle.dcm_base.specs.Conversion.Normal.{normal_vr, normal_sequence_vr, normal_value, normal, normal_items, normal_front, UnlessGroupLength}
 use Rattle.dcm_base.specs.Bytes.Spelling.{last_tag, after, dictionary_after}
-use Rattle.dcm_base.proofs.Conversions.NormalForm.{recodes_normal, normal_once, dropped_own, own_dictionary, leaf_once}
+use Rattle.dcm_base.proofs.Conversions.NormalForm.{recodes_normal, normal_once, dropped_own, own_dictionary, leaf_once, items_alike}
 use Rattle.dcm_base.proofs.Dictionaries.TagOrder.{same_tag_self, tag_is}
 use Rattle.dcm_base.specs.Tables.Syntax.{dictionary_of, read_by}
 use Rattle.dcm_edits.specs.Edit.{number, every, step, insert, modify, erase, erase_item, Edit, on_path, modify_all, erase_all, erase_private, elsewhere, within, Fate, stays, becomes, goes, fate, settled, erases, has, put, NewElement, no_element, new_leaf, new_sequence, before, new_element, element_of, with_new, is_passed, with_new_so_far, changed, changed_items, edited_set, edited_sets, edited_by, edited}
@@ -25,7 +26,6 @@ use Rattle.dcm_edits.specs.EditWords.{meant_edits_in}
 use Rattle.dcm_edits.specs.Overlap.{AreApart, ArePublic}
 use Rattle.dcm_editor_laws.specs.Repeating.{EraseByNoNumber}
 use Rattle.dcm_edits.proofs.Trees.Laws.{chosen, then_trees-none}
-use Rattle.dcm_edits.proofs.Overlapping.Items.{or_last}
 use Rattle.dcm_edits.proofs.Words.EditWordLemmas.{edits_are_apart}
 use Rattle.dcm_editor_laws.proofs.ReadBack.EditedReads.{front_whole}
 use Rattle.dcm_editor_laws.proofs.ReadBack.TwiceDone.{LeafDone, IsThere, Done, ItemsDone, SetDone}
@@ -49,9 +49,6 @@ leaves_alike t v w x y a b p q r = cc
 
 lists_alike : (t : Tag) (vr : Vr) (i j : Items) (a b : Trees) → i ≡ j → a ≡ b → sequence t vr Undefined i a ≡ sequence t vr Undefined j b
 lists_alike t vr i j a b p q = cc
-
-items_alike : (a b : Trees) (i j : Items) → a ≡ b → i ≡ j → item Undefined a i ≡ item Undefined b j
-items_alike a b i j p q = cc
 
 -- what is done is done by each dictionary
 pub done_by : (e : Dictionary) (s : Syntax) (t : Tag) (vr : Vr) (v : List ℕ) (f : Fate) → LeafDone s t vr v f → LeafDone (read_by e s) t vr v f
@@ -295,7 +292,7 @@ if_whole false false x y reached e = absurd (cc)
 
 always_passed : (t : Tag) (reached : Option Tag) → is_passed t reached true ≡ true
 always_passed t None = refl
-always_passed t (Some u) = or_last (below t u)
+always_passed t (Some u) = or_true (below t u)
 
 with_whole : (x : NewElement) (set : Trees) (reached : Option Tag) → with_new_so_far x (front set nothing_open reached true) ≡ front (with_new x set) nothing_open reached true
 with_whole no_element set reached = refl

@@ -1,6 +1,7 @@
 -- What is written of a data set depends on no dictionary.
 use Rattle.std.proofs.Common.{◌≡◌, refl, ap, List, ◌++◌, ℕ}
 use Rattle.std.specs.Prelude.{[]}
+use Rattle.dcm_lemmas.proofs.Lists.{behind_alike}
 use Rattle.dcm_base.specs.declared.length.Length.TheVariants.{Undefined}
 use Rattle.dcm_base.specs.declared.dictionary.Dictionary.{Dictionary}
 use Rattle.dcm_base.specs.declared.syntax.Syntax.{Syntax}
@@ -13,13 +14,10 @@ use Rattle.dcm_base.specs.Tables.Syntax.{read_by}
 use Rattle.dcm_base.specs.Tree.Tree.{Trees, no_tree, leaf, sequence, fragments, Items, no_item, item}
 use Rattle.dcm_editor_laws.proofs.ReadBack.StaysReady.{FrontReady}
 
-leaf_more : (before a b : List ℕ) → a ≡ b → before ++ a ≡ before ++ b
-leaf_more before a b e = ap (λ (x : List ℕ). before ++ x) e
-
-sequence_more : (t : Tag) (x y a b r q : List ℕ) → a ≡ b → r ≡ q → unless_dropped t (x ++ a ++ y) ++ r ≡ unless_dropped t (x ++ b ++ y) ++ q
+pub sequence_more : (t : Tag) (x y a b r q : List ℕ) → a ≡ b → r ≡ q → unless_dropped t (x ++ a ++ y) ++ r ≡ unless_dropped t (x ++ b ++ y) ++ q
 sequence_more t x y a b r q e f = cc
 
-item_more : (x y a b r q : List ℕ) → a ≡ b → r ≡ q → x ++ a ++ y ++ r ≡ x ++ b ++ y ++ q
+pub item_more : (x y a b r q : List ℕ) → a ≡ b → r ≡ q → x ++ a ++ y ++ r ≡ x ++ b ++ y ++ q
 item_more x y a b r q e f = cc
 
 mutual
@@ -29,18 +27,18 @@ mutual
   set_alike d (implicit_in e) no_tree = refl
   set_alike d (little_in e) no_tree = refl
   set_alike d (big_in e) no_tree = refl
-  set_alike d (implicit_in e) (leaf t vr v rest) = leaf_more _ _ _ (set_alike d (implicit_in e) rest)
-  set_alike d (little_in e) (leaf t vr v rest) = leaf_more _ _ _ (set_alike d (little_in e) rest)
-  set_alike d (big_in e) (leaf t vr v rest) = leaf_more _ _ _ (set_alike d (big_in e) rest)
+  set_alike d (implicit_in e) (leaf t vr v rest) = behind_alike _ _ _ (set_alike d (implicit_in e) rest)
+  set_alike d (little_in e) (leaf t vr v rest) = behind_alike _ _ _ (set_alike d (little_in e) rest)
+  set_alike d (big_in e) (leaf t vr v rest) = behind_alike _ _ _ (set_alike d (big_in e) rest)
   set_alike d (implicit_in e) (sequence t vr size items rest) =
       sequence_more t (head_bytes (implicit_in e) t SQ Undefined) (sequence_delimiter (implicit_in e)) _ _ _ _ (items_alike d (implicit_in e) items) (set_alike d (implicit_in e) rest)
   set_alike d (little_in e) (sequence t vr size items rest) =
       sequence_more t (head_bytes (little_in e) t SQ Undefined) (sequence_delimiter (little_in e)) _ _ _ _ (items_alike d (little_in e) items) (set_alike d (little_in e) rest)
   set_alike d (big_in e) (sequence t vr size items rest) =
       sequence_more t (head_bytes (big_in e) t SQ Undefined) (sequence_delimiter (big_in e)) _ _ _ _ (items_alike d (big_in e) items) (set_alike d (big_in e) rest)
-  set_alike d (implicit_in e) (fragments t vr values rest) = leaf_more _ _ _ (set_alike d (implicit_in e) rest)
-  set_alike d (little_in e) (fragments t vr values rest) = leaf_more _ _ _ (set_alike d (little_in e) rest)
-  set_alike d (big_in e) (fragments t vr values rest) = leaf_more _ _ _ (set_alike d (big_in e) rest)
+  set_alike d (implicit_in e) (fragments t vr values rest) = behind_alike _ _ _ (set_alike d (implicit_in e) rest)
+  set_alike d (little_in e) (fragments t vr values rest) = behind_alike _ _ _ (set_alike d (little_in e) rest)
+  set_alike d (big_in e) (fragments t vr values rest) = behind_alike _ _ _ (set_alike d (big_in e) rest)
 
   items_alike : (d : Dictionary) (s : Syntax) (items : Items) → recode_items (read_by d s) items ≡ recode_items s items
   items_alike d (implicit_in e) no_item = refl

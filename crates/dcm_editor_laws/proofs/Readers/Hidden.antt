@@ -105,7 +105,7 @@ told_sequence e (implicit_in d) t is = absurd (cc)
 told_sequence e (little_in d) t is = tt
 told_sequence e (big_in d) t is = tt
 
-still_explicit : (d : Dictionary) (s : Syntax) → is_explicit s ≡ true → is_explicit (read_by d s) ≡ true
+pub still_explicit : (d : Dictionary) (s : Syntax) → is_explicit s ≡ true → is_explicit (read_by d s) ≡ true
 still_explicit d (implicit_in e) h = absurd (cc)
 still_explicit d (little_in e) h = refl
 still_explicit d (big_in e) h = refl

@@ -1,6 +1,7 @@
 -- Normal forms without some elements, and what a dictionary opens of them.
 use Rattle.std.proofs.Common.{◌≡◌, ◌∙◌, ap, sym, refl, length, map, Bool, true, false, subst, ℕ, List}
 use Rattle.std.specs.Prelude.{if◌then◌else◌, ◌==◌}
+use Rattle.dcm_lemmas.proofs.Choice.{if_false, if_true}
 use Rattle.dcm_base.specs.declared.length.Length.TheVariants.{Undefined}
 use Rattle.dcm_base.specs.declared.syntax.Syntax.{Syntax}
 use Rattle.dcm_base.specs.declared.tag.Tag.{Tag}
@@ -18,20 +19,9 @@ use Rattle.dcm_base.specs.Tables.Dictionary.{if_signed}
 use Rattle.dcm_base.specs.Tables.Syntax.{dictionary_of, read_by}
 use Rattle.dcm_edits.specs.Edit.{Edit}
 use Rattle.dcm_base.proofs.DataSets.After.{read_by_twice}
-use Rattle.dcm_base.proofs.Conversions.NormalForm.{leaf_once}
+use Rattle.dcm_base.proofs.Conversions.NormalForm.{leaf_once, items_alike}
 
 -- ---- without some elements
-
-if_true : {A : Type 0} (b : Bool) (x y : A) → b ≡ true → (if b then x else y) ≡ x
-if_true true x y e = refl
-if_true false x y e = absurd (cc)
-
-if_false : {A : Type 0} (b : Bool) (x y : A) → b ≡ false → (if b then x else y) ≡ y
-if_false true x y e = absurd (cc)
-if_false false x y e = refl
-
-item_alike : (a b : Trees) (c d : Items) → a ≡ b → c ≡ d → item Undefined a c ≡ item Undefined b d
-item_alike a b c d h k = cc
 
 lists_alike : (t : Tag) (w : Vr) (i j : Items) (x y : Trees) → i ≡ j → x ≡ y → (if t.element == 0 then x else sequence t w Undefined i x) ≡ (if t.element == 0 then y else sequence t w Undefined j y)
 lists_alike t w i j x y h k = ap (λ (c : Items). if t.element == 0 then x else sequence t w Undefined c x) h ∙ ap (λ (z : Trees). if t.element == 0 then z else sequence t w Undefined j z) k
@@ -51,7 +41,7 @@ mutual
 
   little_items : (d e : Dictionary) (x : Items) → normal_items (little_in d) x ≡ normal_items (little_in e) x
   little_items d e no_item = refl
-  little_items d e (item size set rest) = item_alike _ _ _ _ (little_alike d e set) (little_items d e rest)
+  little_items d e (item size set rest) = items_alike _ _ _ _ (little_alike d e set) (little_items d e rest)
 
 mutual
   unfolding normal
@@ -67,7 +57,7 @@ mutual
 
   big_items : (d e : Dictionary) (x : Items) → normal_items (big_in d) x ≡ normal_items (big_in e) x
   big_items d e no_item = refl
-  big_items d e (item size set rest) = item_alike _ _ _ _ (big_alike d e set) (big_items d e rest)
+  big_items d e (item size set rest) = items_alike _ _ _ _ (big_alike d e set) (big_items d e rest)
 
 module _ (edits : List Edit) where
   abbrev p : Tag → Bool
@@ -132,7 +122,7 @@ module _ (edits : List Edit) where
 
     items_without_normal : (s : Syntax) (x : Items) → KeepsSign s edits → items_without p (normal_items s x) ≡ normal_items s (items_without p x)
     items_without_normal s no_item keep = refl
-    items_without_normal s (item size set rest) keep = item_alike _ _ _ _ (normal_without s set keep) (items_without_normal s rest keep)
+    items_without_normal s (item size set rest) keep = items_alike _ _ _ _ (normal_without s set keep) (items_without_normal s rest keep)
 
   front_without : (s : Syntax) (f : Front) → KeepsSign s edits → set_without p (normal_front s f) ≡ normal s (set_without p f)
   front_without s (front whole o reached closed) keep = normal_without s whole keep

@@ -3,6 +3,7 @@ use Rattle.std.proofs.Common.{◌≡◌, ◌≢◌, sym, refl, subst, ℕ, suc, 
 use Rattle.std.specs.Prelude.{if◌then◌else◌, ◌==◌, ◌%◌, find}
 use Rattle.std.specs.Option.{option_map_or}
 use Rattle.std.proofs.lemmas.Bool.Decides.{nat_tests}
+use Rattle.dcm_lemmas.proofs.Options.{mapped}
 use Rattle.dcm_base.specs.declared.form.Form.TheVariants.{Value as a_value, Sequence as a_sequence, FragmentList as a_fragment_list}
 use Rattle.dcm_base.specs.declared.length.Length.TheVariants.{Known, Undefined}
 use Rattle.dcm_base.specs.declared.dictionary.Dictionary.{Dictionary}
@@ -25,7 +26,7 @@ use Rattle.dcm_base.specs.Tree.Tree.{Trees, no_tree, leaf, sequence, fragments, 
 use Rattle.dcm_base_laws.proofs.DataSets.ImplicitLengths.{extract_fits}
 use Rattle.dcm_base.proofs.Dictionaries.Parts.{extract_is_part, groups_are_even}
 use Rattle.dcm_sinks.proofs.ReadBack.HasRoom.{Ready, ReadyItems}
-use Rattle.dcm_edits.proofs.Words.EditWordLemmas.{found_passes, mapped, same_group}
+use Rattle.dcm_edits.proofs.Words.EditWordLemmas.{found_passes, same_group}
 use Rattle.dcm_editor_laws.specs.Readers.{OpensAlike}
 use Rattle.dcm_editor_laws.proofs.ReadBack.StaysReady.{FrontReady}
 use Rattle.dcm_editor_laws.proofs.ReadBack.Plain.{plain}

@@ -1,6 +1,7 @@
 -- The normal form by another dictionary, of a normal form.
 use Rattle.std.proofs.Common.{◌≡◌, ◌∙◌, ap, sym, refl, ℕ, List, [], ◌∷◌, length, map, Bool, true, false}
 use Rattle.std.specs.Prelude.{if◌then◌else◌, ◌==◌}
+use Rattle.dcm_lemmas.proofs.Choice.{if_false}
 use Rattle.dcm_base.specs.declared.length.Length.TheVariants.{Undefined}
 use Rattle.dcm_base.specs.declared.dictionary.Dictionary.{Dictionary}
 use Rattle.dcm_base.specs.declared.syntax.Syntax.{Syntax}
@@ -14,16 +15,9 @@ use Rattle.dcm_base.specs.Tables.Representation.{pad}
 use Rattle.dcm_base.specs.Tables.Syntax.{read_by, dictionary_of}
 use Rattle.dcm_base.specs.Tree.Tree.{Trees, no_tree, leaf, sequence, fragments, Items, no_item, item}
 use Rattle.dcm_base.specs.Tree.Value.{evened}
-use Rattle.dcm_base.proofs.Conversions.NormalForm.{evened_same, evened_size, normal_once, dropped_own}
+use Rattle.dcm_base.proofs.Conversions.NormalForm.{evened_same, evened_size, normal_once, dropped_own, items_alike}
 use Rattle.dcm_base.specs.Bytes.Spelling.{dictionary_after}
 use Rattle.dcm_editor_laws.proofs.Readers.NormalForms.{little_alike, big_alike}
-
-if_false : (b : Bool) (x y : Trees) → b ≡ false → (if b then x else y) ≡ y
-if_false true x y e = absurd (cc)
-if_false false x y e = refl
-
-items_alike : (a b : Trees) (c d : Items) → a ≡ b → c ≡ d → item Undefined a c ≡ item Undefined b d
-items_alike a b c d h k = cc
 
 -- ---- an implicit one
 

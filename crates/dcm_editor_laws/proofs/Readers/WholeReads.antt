@@ -89,7 +89,7 @@ stops_at_end bar s start f p rest h = either_ends (bar f) p rest (value_open f) 
 
 -- ---- and within the limit
 
-cut_never : (why : Stop) → at_the_cut why ≡ complete → ⊥
+pub cut_never : (why : Stop) → at_the_cut why ≡ complete → ⊥
 cut_never complete h = cc
 cut_never (refused EndsEarly offset) h = cc
 cut_never (refused fault offset) h = cc

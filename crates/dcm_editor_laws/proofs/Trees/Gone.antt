@@ -1,6 +1,7 @@
 -- What an edit of all depths leaves of a data set, and what reads back of it.
 use Rattle.std.proofs.Common.{◌≡◌, sym, refl, subst, ℕ, ◌+◌, ◌≤◌, List, [], ◌∷◌, length, Bool, true, false, Ok, inl, inr, ◌∙◌}
-use Rattle.std.specs.Prelude.{◌==◌, ◌&&◌, ◌||◌, not, if◌then◌else◌}
+use Rattle.std.specs.Prelude.{◌==◌, not, if◌then◌else◌}
+use Rattle.dcm_lemmas.proofs.Truth.{and_parts, not_true, or_parts}
 use Rattle.dcm_base.specs.declared.tag.Tag.{Tag}
 use Rattle.dcm_base.specs.declared.vr.Vr.{Vr}
 use Rattle.dcm_base.specs.declared.syntax.Syntax.{Syntax}
@@ -61,15 +62,11 @@ module _ (P : Tag → Content → Type 0) (e : Edit) (same : (tag : Tag) (i : �
 
 -- ---- the others name other tags
 
-neither : (a b : Bool) → (a || b) ≡ false → (a ≡ false) × (b ≡ false)
-neither true b e = absurd (cc)
-neither false b e = (refl, e)
-
 module _ (P : Tag → Content → Type 0) (t : Tag) (others : (tag : Tag) (c : Content) → same_tag t tag ≡ false → P tag c) where
   path_fits : (edit : PathEdit) → is_on t (path edit) ≡ false → PathFits P edit
-  path_fits (step tag index edit) h = let two = neither (same_tag t tag) (is_on t (path edit)) h in (others tag a_list two.0, path_fits edit two.1)
-  path_fits (insert tag vr value) h = others tag (a_value vr value) (neither (same_tag t tag) false h).0
-  path_fits (modify tag vr value) h = others tag (a_value vr value) (neither (same_tag t tag) false h).0
+  path_fits (step tag index edit) h = let two = or_parts (same_tag t tag) (is_on t (path edit)) h in (others tag a_list two.0, path_fits edit two.1)
+  path_fits (insert tag vr value) h = others tag (a_value vr value) (or_parts (same_tag t tag) false h).0
+  path_fits (modify tag vr value) h = others tag (a_value vr value) (or_parts (same_tag t tag) false h).0
   path_fits (erase tag) h = tt
   path_fits (erase_item tag index) h = tt
 
@@ -105,24 +102,16 @@ private_settles tag c = by_test (is_private tag) refl
     by_test true h = tt
     by_test false h = h
 
-public_is : (b : Bool) → not b ≡ true → b ≡ false
-public_is true e = absurd (cc)
-public_is false e = refl
-
-both : (a b : Bool) → (a && b) ≡ true → (a ≡ true) × (b ≡ true)
-both true b e = (refl, e)
-both false b e = absurd (cc)
-
 public_path : (edit : PathEdit) → is_public_path (path edit) ≡ true → PathFits IsPublic edit
-public_path (step tag index edit) h = let two = both (not (is_private tag)) (is_public_path (path edit)) h in (public_is (is_private tag) two.0, public_path edit two.1)
-public_path (insert tag vr value) h = public_is (is_private tag) (both (not (is_private tag)) true h).0
-public_path (modify tag vr value) h = public_is (is_private tag) (both (not (is_private tag)) true h).0
+public_path (step tag index edit) h = let two = and_parts (not (is_private tag)) (is_public_path (path edit)) h in (not_true (is_private tag) two.0, public_path edit two.1)
+public_path (insert tag vr value) h = not_true (is_private tag) (and_parts (not (is_private tag)) true h).0
+public_path (modify tag vr value) h = not_true (is_private tag) (and_parts (not (is_private tag)) true h).0
 public_path (erase tag) h = tt
 public_path (erase_item tag index) h = tt
 
 public_fits : (e : Edit) → is_public e ≡ true → Fits IsPublic e
 public_fits (on_path edit) h = public_path edit h
-public_fits (modify_all tag vr value) h = public_is (is_private tag) h
+public_fits (modify_all tag vr value) h = not_true (is_private tag) h
 public_fits (erase_all tag) h = tt
 public_fits erase_private h = tt
 public_fits elsewhere h = tt

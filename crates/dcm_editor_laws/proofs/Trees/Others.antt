@@ -1,6 +1,8 @@
 -- What no edit names stays as it was.
 use Rattle.std.proofs.Common.{◌≡◌, ◌∙◌, ap, sym, refl, subst, ℕ, zero, suc, List, [], ◌∷◌, Bool, true, false, inl, inr, ◌⊎◌}
 use Rattle.std.specs.Prelude.{◌&&◌, ◌||◌, not, if◌then◌else◌}
+use Rattle.dcm_lemmas.proofs.Choice.{if_true}
+use Rattle.dcm_lemmas.proofs.Truth.{and_first, or_first, or_second}
 use Rattle.dcm_base.specs.declared.tag.Tag.{Tag}
 use Rattle.dcm_base.specs.declared.vr.Vr.{Vr}
 use Rattle.dcm_base.specs.declared.length.Length.{Length}
@@ -14,14 +16,6 @@ use Rattle.dcm_editor_laws.proofs.Trees.Gone.{Anything, any_fits}
 use Rattle.dcm_editor_laws.specs.Others.{inserts, path_changes, changes, any_changes, without, items_without, set_without}
 
 -- ---- tests
-
-or_left : (a b : Bool) → a ≡ true → (a || b) ≡ true
-or_left true b e = refl
-or_left false b e = absurd (cc)
-
-or_right : (a b : Bool) → b ≡ true → (a || b) ≡ true
-or_right true b e = refl
-or_right false b e = e
 
 -- the edit changes only elements whose tags pass
 abbrev pub Only : (Tag → Bool) → Edit → Type 0
@@ -38,12 +32,12 @@ more_pass p q (e ∷ es) h a = (λ t c. h t (a.0 t c), more_pass p q es h a.1)
 pub all_only : (es : List Edit) → AllOnly (any_changes es) es
 all_only [] = tt
 all_only (e ∷ es) =
-    (λ t c. or_left (changes e t) (any_changes es t) c, more_pass (any_changes es) (λ t. changes e t || any_changes es t) es (λ t h. or_right (changes e t) (any_changes es t) h) (all_only es))
+    (λ t c. or_first (changes e t) (any_changes es t) c, more_pass (any_changes es) (λ t. changes e t || any_changes es t) es (λ t h. or_second (changes e t) (any_changes es t) h) (all_only es))
 
 -- ---- what an edit asks of an item
 
 inner_path : (b : Bool) (edit : PathEdit) (t : Tag) (tag : Tag) → (changes (if b then on_path edit else elsewhere) t ≡ true) → ((inserts edit && same_tag tag t) || path_changes edit t) ≡ true
-inner_path true edit t tag h = or_right (inserts edit && same_tag tag t) (path_changes edit t) h
+inner_path true edit t tag h = or_second (inserts edit && same_tag tag t) (path_changes edit t) h
 inner_path false edit t tag h = absurd (cc)
 
 inner_changes : (e : Edit) (tag : Tag) (n : ℕ) (t : Tag) → changes (within e tag n) t ≡ true → changes e t ≡ true
@@ -60,16 +54,12 @@ inner_changes elsewhere tag n t h = h
 inner_only : (p : Tag → Bool) (e : Edit) (tag : Tag) (n : ℕ) → Only p e → Only p (within e tag n)
 inner_only p e tag n only = λ t h. only t (inner_changes e tag n t h)
 
-first_true : (a b : Bool) → (a && b) ≡ true → a ≡ true
-first_true true b e = refl
-first_true false b e = absurd (cc)
-
 erases_changes : (e : Edit) (t : Tag) (n : ℕ) → erases e t n ≡ true → changes e t ≡ true
 erases_changes (on_path (step s index edit)) t n h = absurd (cc)
 erases_changes (on_path (insert s vr value)) t n h = absurd (cc)
 erases_changes (on_path (modify s vr value)) t n h = absurd (cc)
 erases_changes (on_path (erase s)) t n h = absurd (cc)
-erases_changes (on_path (erase_item s index)) t n h = first_true (same_tag s t) (selects index n) h
+erases_changes (on_path (erase_item s index)) t n h = and_first (same_tag s t) (selects index n) h
 erases_changes (modify_all s vr value) t n h = absurd (cc)
 erases_changes (erase_all s) t n h = absurd (cc)
 erases_changes erase_private t n h = absurd (cc)
@@ -101,10 +91,6 @@ makes (modify tag vr value) = inl refl
 makes (erase tag) = inl refl
 makes (erase_item tag index) = inl refl
 
-dropped : {A : Type 0} (b : Bool) (x y : A) → b ≡ true → (if b then x else y) ≡ x
-dropped true x y e = refl
-dropped false x y e = absurd (cc)
-
 module _ (p : Tag → Bool) where
   abbrev NewOnly : NewElement → Type 0
   NewOnly no_element = Unit {0}
@@ -117,7 +103,7 @@ module _ (p : Tag → Bool) where
   around_only tag (new_sequence t held) h = h
 
   on_way : (tag : Tag) (edit : PathEdit) → inserts edit ≡ true → ((inserts edit && same_tag tag tag) || path_changes edit tag) ≡ true
-  on_way tag edit is = or_left (inserts edit && same_tag tag tag) (path_changes edit tag) (ap (λ (b : Bool). b && same_tag tag tag) is ∙ same_tag_self tag)
+  on_way tag edit is = or_first (inserts edit && same_tag tag tag) (path_changes edit tag) (ap (λ (b : Bool). b && same_tag tag tag) is ∙ same_tag_self tag)
 
   new_only : (edit : PathEdit) → Only p (on_path edit) → NewOnly (new_element edit)
   new_only (insert tag vr value) only = only tag (same_tag_self tag)
@@ -140,8 +126,8 @@ module _ (p : Tag → Bool) where
 
   before_same : (x : NewElement) (set : Trees) → NewOnly x → without p (before x set) ≡ without p set
   before_same no_element set h = refl
-  before_same (new_leaf tag vr value) set h = dropped (p tag) _ _ h
-  before_same (new_sequence tag held) set h = dropped (p tag) _ _ h
+  before_same (new_leaf tag vr value) set h = if_true (p tag) _ _ h
+  before_same (new_sequence tag held) set h = if_true (p tag) _ _ h
 
   either_same : (b : Bool) (x y set : Trees) → without p x ≡ without p set → without p y ≡ without p set → without p (if b then x else y) ≡ without p set
   either_same true x y set h k = h
@@ -168,7 +154,7 @@ module _ (p : Tag → Bool) where
       → (p tag ≡ true → without p (other rest) ≡ without p rest)
       → without p (element changed_rest) ≡ without p (other rest) → without p (settled f tag element changed_rest) ≡ without p (other rest)
   settled_same stays tag element other rest changed_rest only more out kept = kept
-  settled_same (becomes vr value) tag element other rest changed_rest only more out kept = dropped (p tag) _ _ (only refl) ∙ more ∙ sym (out (only refl))
+  settled_same (becomes vr value) tag element other rest changed_rest only more out kept = if_true (p tag) _ _ (only refl) ∙ more ∙ sym (out (only refl))
   settled_same goes tag element other rest changed_rest only more out kept = more ∙ sym (out (only refl))
 
   kept_sequence : (b : Bool) (tag : Tag) (vr : Vr) (declared : Length) (items others : Items) (rest changed_rest : Trees) → p tag ≡ b → (p tag ≡ false → items_without p items ≡ items_without p others) → without p changed_rest ≡ without p rest
@@ -192,14 +178,14 @@ module _ (p : Tag → Bool) where
     changed_same e no_tree only = refl
     changed_same e (leaf tag vr value rest) only =
         let more = changed_same e rest only in
-        settled_same (fate e tag) tag (leaf tag vr value) (leaf tag vr value) rest (changed e rest) (λ h. only tag (fate_changes e tag h)) more (dropped (p tag) _ _) (ap (λ (r : Trees). if p tag then r else leaf tag vr value r) more)
+        settled_same (fate e tag) tag (leaf tag vr value) (leaf tag vr value) rest (changed e rest) (λ h. only tag (fate_changes e tag h)) more (if_true (p tag) _ _) (ap (λ (r : Trees). if p tag then r else leaf tag vr value r) more)
     changed_same e (sequence tag vr declared items rest) only =
         let more = changed_same e rest only in
-        settled_same (fate e tag) tag (sequence tag vr declared (changed_items e tag 0 items)) (sequence tag vr declared items) rest (changed e rest) (λ h. only tag (fate_changes e tag h)) more (dropped (p tag) _ _)
+        settled_same (fate e tag) tag (sequence tag vr declared (changed_items e tag 0 items)) (sequence tag vr declared items) rest (changed e rest) (λ h. only tag (fate_changes e tag h)) more (if_true (p tag) _ _)
         (kept_sequence (p tag) tag vr declared (changed_items e tag 0 items) items rest (changed e rest) refl (λ stays_in. items_same e tag 0 items only stays_in) more)
     changed_same e (fragments tag vr values rest) only =
         let more = changed_same e rest only in
-        settled_same (fate e tag) tag (fragments tag vr values) (fragments tag vr values) rest (changed e rest) (λ h. only tag (fate_changes e tag h)) more (dropped (p tag) _ _) (ap (λ (r : Trees). if p tag then r else fragments tag vr values r) more)
+        settled_same (fate e tag) tag (fragments tag vr values) (fragments tag vr values) rest (changed e rest) (λ h. only tag (fate_changes e tag h)) more (if_true (p tag) _ _) (ap (λ (r : Trees). if p tag then r else fragments tag vr values r) more)
 
     items_same : (e : Edit) (tag : Tag) (n : ℕ) (items : Items) → Only p e → p tag ≡ false → items_without p (changed_items e tag n items) ≡ items_without p items
     items_same e tag n no_item only stays_in = refl

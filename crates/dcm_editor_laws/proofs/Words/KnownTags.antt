@@ -4,6 +4,8 @@ use Rattle.std.specs.Prelude.{if◌then◌else◌, nat_lt, find}
 use Rattle.std.specs.List.{list_all}
 use Rattle.std.specs.Option.{option_map_or}
 use Rattle.std.proofs.lemmas.Bool.{eqb-true, ltb-true}
+use Rattle.dcm_lemmas.proofs.Options.{mapped}
+use Rattle.dcm_lemmas.proofs.Truth.{and_first, and_second}
 use Rattle.dcm_base.specs.declared.dictionary.Dictionary.{Dictionary}
 use Rattle.dcm_base.specs.declared.tag.Tag.{Tag}
 use Rattle.dcm_base.specs.declared.vr.Vr.{Vr}
@@ -16,7 +18,7 @@ use Rattle.dcm_base.specs.Tables.Dictionary.{Element, Entry, elements, entries, 
 use Rattle.dcm_sinks.proofs.ReadBack.HasRoom.{IsElement}
 use Rattle.dcm_edits.specs.Edit.{Index}
 use Rattle.dcm_edits.specs.EditWords.{◌>>=◌, or_refuse, PathPart, TagName, by_number, by_keyword, Known, known_tag, known_part, known_parts}
-use Rattle.dcm_edits.proofs.Words.EditWordLemmas.{bind_ok, ok_is, if_err, or_refused, mapped, found_passes, same_group, Within, AllWithin}
+use Rattle.dcm_edits.proofs.Words.EditWordLemmas.{bind_ok, ok_is, if_err, or_refused, found_passes, same_group, Within, AllWithin}
 use Rattle.dcm_editor_laws.proofs.ReadBack.StaysReady.{Steady}
 use Rattle.dcm_base.proofs.Dictionaries.Parts.{extract_is_part}
 
@@ -51,14 +53,6 @@ are_of_elements Extract = extract_is_of_elements
 are_of_elements Standard = sym (same_test keywords entries) ∙ entries_are_of_elements
 are_of_elements Signed = sym (same_test keywords entries) ∙ entries_are_of_elements
 
-and_one : (a b : Bool) → (a && b) ≡ true → a ≡ true
-and_one true b p = refl
-and_one false b p = absurd cc
-
-and_two : (a b : Bool) → (a && b) ≡ true → b ≡ true
-and_two true b p = p
-and_two false b p = absurd cc
-
 both_not : (a b : Bool) → not a ≡ true → b ≡ false → (not a && not b) ≡ true
 both_not a true p q = absurd cc
 both_not true false p q = absurd cc
@@ -73,8 +67,8 @@ element_is d tag x h data_set p =
     let m = mapped (λ (e : Element). (e.1, e.2)) (find (λ (e : Element). e.0 == tag_number tag) (elements_in d)) x p in
     let q = found_passes (λ e. e.0 == tag_number tag) (λ e. is_of_element e.0) (elements_in d) m.0 (are_of_elements d) m.1 in
     let same : m.0.0 ≡ tag_number tag = eqb-true m.0.0 (tag_number tag) q.1 in
-    let below : m.0.0 < 4294967296 = ltb-true m.0.0 4294967296 (and_one _ _ q.0) in
-    let other : not (tag.group == 0xFFFE) ≡ true = subst (λ (g : ℕ). not (g == 0xFFFE) ≡ true) (same_group tag m.0.0 h q.1) (and_two (nat_lt m.0.0 4294967296) _ q.0) in
+    let below : m.0.0 < 4294967296 = ltb-true m.0.0 4294967296 (and_first _ _ q.0) in
+    let other : not (tag.group == 0xFFFE) ≡ true = subst (λ (g : ℕ). not (g == 0xFFFE) ≡ true) (same_group tag m.0.0 h q.1) (and_second (nat_lt m.0.0 4294967296) _ q.0) in
     ((group_within tag m.0.0 same below, h), both_not (tag.group == 0xFFFE) (tag.group == 2) other data_set)
 
 entry_vr : (o : Option (Vr × List ℕ)) (x : Vr × List ℕ) (otherwise : Vr) → o ≡ Some x → option_map_or (λ e. e.0) o otherwise ≡ x.0

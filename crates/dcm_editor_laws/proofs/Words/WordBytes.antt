@@ -4,6 +4,7 @@ use Rattle.std.specs.Prelude.{if◌then◌else◌, ◌-◌, ◌*◌, ◌^◌, �
 use Rattle.std.specs.Int.{bytes_low_first}
 use Rattle.std.specs.List.{slice_split}
 use Rattle.std.specs.Str.{byte}
+use Rattle.dcm_lemmas.proofs.Options.{some_is}
 use Rattle.dcm_base.specs.declared.dictionary.Dictionary.{Dictionary}
 use Rattle.dcm_base.specs.declared.tag.Tag.{Tag}
 use Rattle.dcm_base.specs.declared.vr.Vr.{Vr}
@@ -20,9 +21,6 @@ use Rattle.dcm_edits.specs.EditWords.{Cut, cut, onto, cut_at, parts_of, Known, k
 use Rattle.dcm_edits.proofs.Words.EditWordLemmas.{bind_ok, ok_is, if_ok, or_refused}
 use Rattle.dcm_edits.proofs.Words.WordValues.{AllFine, AllHave, fine_edits_have}
 use Rattle.dcm_editor_laws.proofs.ReadBack.BytesKept.{low_bytes, PathBytes, EditBytes, AllEditBytes}
-
-some_is : {A : Type 0} (x y : A) → (let o : Option A = Some x in o ≡ Some y) → x ≡ y
-some_is x y p = cc
 
 some_bytes : (w v : List ℕ) → Bytes w → (let o : Option (List ℕ) = Some w in o ≡ Some v) → Bytes v
 some_bytes w v h p = subst Bytes (some_is w v p) h

@@ -5,6 +5,9 @@ use Rattle.std.specs.List.{slice_split}
 use Rattle.std.specs.Str.{byte}
 use Rattle.std.specs.Option.{is_some}
 use Rattle.std.proofs.lemmas.Bool.{leb-true}
+use Rattle.dcm_edits.proofs.Words.Forms.{known_count}
+use Rattle.dcm_lemmas.proofs.Options.{some_is}
+use Rattle.dcm_lemmas.proofs.Truth.{and_first, and_second}
 use Rattle.dcm_base.specs.declared.tag.Tag.{Tag}
 use Rattle.dcm_base.specs.declared.vr.Vr.{Vr}
 use Rattle.dcm_base.specs.declared.vr.Vr.TheVariants.{SQ, UN}
@@ -27,14 +30,11 @@ use Rattle.dcm_edits.specs.EditWords.{PathPart, parts_of, Known, known_parts, ha
 use Rattle.dcm_edits.proofs.Words.EditWordLemmas.{bind_ok, ok_is, if_ok, or_refused, parts_within}
 use Rattle.dcm_editor_laws.proofs.Words.KnownTags.{IsListed, AllListed, parts_listed}
 use Rattle.dcm_editor_laws.proofs.ReadBack.StaysReady.{LeafReady, StepReady, PathReady, EditReady, AreReady}
-use Rattle.dcm_edits.proofs.Words.WordValues.{EndsPlain, and_one, and_two, plain_last, parts_end, parts_count, form_ends, form_one, if_test, AllHave, all_edits_have}
+use Rattle.dcm_edits.proofs.Words.WordValues.{EndsPlain, plain_last, parts_end, form_ends, form_one, if_test, AllHave, all_edits_have}
 use Rattle.dcm_base.specs.declared.dictionary.Dictionary.{Dictionary}
 use Rattle.dcm_base.specs.declared.dictionary.Dictionary.TheVariants.{Extract, Standard, Signed}
 
 -- ---- values
-
-some_is : {A : Type 0} (x y : A) → (let o : Option A = Some x in o ≡ Some y) → x ≡ y
-some_is x y p = cc
 
 limit_short : (w v : List ℕ) → within_limit w ≡ Some v → length v ≤ 65536
 limit_short w v p =
@@ -79,7 +79,7 @@ unfolding form
 sequence_form s SQ e = refl
 sequence_form s _ e = absurd cc
 
-no_sequence : (vr : Vr) → is_sequence vr ≡ false → vr ≢ SQ
+pub no_sequence : (vr : Vr) → is_sequence vr ≡ false → vr ≢ SQ
 no_sequence SQ e = absurd cc
 no_sequence vr e = λ k. cc
 
@@ -123,12 +123,12 @@ steps_ready : (s : Syntax) (valued : Bool) (at_end : Known → PathEdit) (k : Kn
 steps_ready s valued at_end k [] a u h = h
 steps_ready s valued at_end k (l ∷ ks) a u h =
     let test : Bool = if is_indexed k then is_sequence k.vr else not (valued && is_sequence k.vr) in
-    step_to_ready s k k.index (not (valued && is_sequence k.vr)) (on_steps at_end l ks) a.0 (and_one test _ u) (steps_ready s valued at_end l ks a.1 (and_two test _ u) h)
+    step_to_ready s k k.index (not (valued && is_sequence k.vr)) (on_steps at_end l ks) a.0 (and_first test _ u) (steps_ready s valued at_end l ks a.1 (and_second test _ u) h)
 
 last_valued : (s : Syntax) (at_end : Known → PathEdit) (k : Known) (ks : List Known) → ((x : Known) → IsListed (dictionary_of s) x → is_sequence x.vr ≡ false → PathReady s (at_end x)) → AllListed (dictionary_of s) (k ∷ ks) → EndsPlain (k ∷ ks)
     → uses_sequences true (k ∷ ks) ≡ true → LastReady s at_end k ks
-last_valued s at_end k [] h a p u = h k a.0 (plain_last (is_indexed k) (is_sequence k.vr) p (and_one _ true u))
-last_valued s at_end k (l ∷ ks) h a p u = last_valued s at_end l ks h a.1 p (and_two (if is_indexed k then is_sequence k.vr else not (true && is_sequence k.vr)) _ u)
+last_valued s at_end k [] h a p u = h k a.0 (plain_last (is_indexed k) (is_sequence k.vr) p (and_first _ true u))
+last_valued s at_end k (l ∷ ks) h a p u = last_valued s at_end l ks h a.1 p (and_second (if is_indexed k then is_sequence k.vr else not (true && is_sequence k.vr)) _ u)
 
 last_erased : (s : Syntax) (k : Known) (ks : List Known) → LastReady s (λ x. item_or_element x.tag x.index) k ks
 last_erased s k [] = by_index k.index
@@ -151,7 +151,7 @@ valued_ready s inserts k ks v a short p u l =
 valued_ready s modifies k ks v a short p u l =
     steps_ready s true (λ x. modify x.tag x.vr v) k ks a u (last_valued s (λ x. modify x.tag x.vr v) k ks (λ x listed plain. leaf_ready s x v listed plain short) a p u)
 valued_ready s erases k ks v a short p u l = erases_ready s true k ks a u
-valued_ready s modifies_all k [] v a short p u l = (leaf_ready s k v a.0 (plain_last (is_indexed k) (is_sequence k.vr) p (and_one _ true u)) short, a.0.2)
+valued_ready s modifies_all k [] v a short p u l = (leaf_ready s k v a.0 (plain_last (is_indexed k) (is_sequence k.vr) p (and_first _ true u)) short, a.0.2)
 valued_ready s modifies_all k (m ∷ ks) v a short p u l = absurd (two (length ks) (l refl))
   where
     two : (n : ℕ) → suc (suc n) ≡ 1 → ⊥
@@ -168,7 +168,7 @@ erasing_ready s erases_all k ks v a t u = tt
 edit_on_ready : (s : Syntax) (kind : Kind) (t : Bool) (ms : List PathPart) (k : Known) (ks : List Known) (v : List ℕ) → takes_value kind ≡ t → has_form kind ms ≡ true → known_parts (dictionary_of s) ms ≡ Ok (k ∷ ks)
     → uses_sequences t (k ∷ ks) ≡ true → AllListed (dictionary_of s) (k ∷ ks) → length v ≤ 65536 → EditReady s (edit_on kind k ks v)
 edit_on_ready s kind true ms k ks v t f m u a short =
-    valued_ready s kind k ks v a short (parts_end (dictionary_of s) ms (k ∷ ks) m (form_ends kind ms t f)) u (λ x. parts_count (dictionary_of s) ms (k ∷ ks) m ∙ form_one kind ms f x)
+    valued_ready s kind k ks v a short (parts_end (dictionary_of s) ms (k ∷ ks) m (form_ends kind ms t f)) u (λ x. known_count (dictionary_of s) ms (k ∷ ks) m ∙ form_one kind ms f x)
 edit_on_ready s kind false ms k ks v t f m u a short = erasing_ready s kind k ks v a t u
 
 known_ready : (s : Syntax) (kind : Kind) (text : List ℕ) (ms : List PathPart) (ks : List Known) (e : Edit) → has_form kind ms ≡ true → known_parts (dictionary_of s) ms ≡ Ok ks → AllListed (dictionary_of s) ks → edit_of_known kind text ks ≡ Ok e → EditReady s e

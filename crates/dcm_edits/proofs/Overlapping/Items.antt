@@ -1,14 +1,15 @@
 -- What edits that do not overlap ask of items.
+use Rattle.dcm_lemmas.proofs.Choice.{chosen_false}
+use Rattle.dcm_lemmas.proofs.Truth.{and_first_false, or_first_false, or_neither, or_true}
 pub use Rattle.dcm_edits.specs.Bounds.{steps, depth, AreWithin}
-use Rattle.std.proofs.Common.{◌≡◌, ℕ, pred, ◌≤◌, List, [], ◌∷◌, Bool, true, false, ◌||◌, ◌&&◌, refl, sym, ◌∙◌, ap, arith}
+use Rattle.std.proofs.Common.{◌≡◌, ℕ, pred, ◌≤◌, List, [], ◌∷◌, Bool, true, false, ◌&&◌, refl, sym, ◌∙◌, ap, arith}
 use Rattle.std.specs.Prelude.{if◌then◌else◌}
 use Rattle.dcm_base.specs.declared.tag.Tag.{Tag}
 use Rattle.dcm_base.specs.Tables.Tag.{same_tag, is_private}
 use Rattle.dcm_edits.specs.Edit.{Index, selects, PathEdit, step, insert, modify, erase, erase_item, Edit, on_path, modify_all, erase_all, erase_private, elsewhere, within, Fate, stays, becomes, goes, fate, erases}
 use Rattle.dcm_edits.specs.Together.{first_fate, any_erases, all_within}
 use Rattle.dcm_edits.specs.Overlap.{at_index, path, same_index, clash, meets, is_on, overlaps, ApartFrom, AreApart, ArePublic}
-use Rattle.dcm_edits.proofs.Trees.Laws.{or_left}
-use Rattle.dcm_edits.proofs.Overlapping.Places.{chosen_false, same_tag_false, or_else_quiet, within_public, all_within_apart, and_false}
+use Rattle.dcm_edits.proofs.Overlapping.Places.{same_tag_false, or_else_quiet, within_public, all_within_apart}
 
 -- the lists of what edits ask of items
 pub all_within_all_apart : (es : List Edit) (v : Tag) (n : ℕ) → AreApart es → AreApart (all_within es v n)
@@ -32,8 +33,8 @@ quiet_step t i x (on_path (insert u vr value)) o n = fate_unless _ _ (step_other
 quiet_step t i x (on_path (modify u vr value)) o n = fate_unless _ _ (step_other t i x u o)
 quiet_step t i x (on_path (erase u)) o n = fate_unless _ _ (step_other t i x u o)
 quiet_step t i x (on_path (erase_item u j)) o n = refl
-quiet_step t i x (modify_all u vr value) o n = fate_unless (same_tag u t) (becomes vr value) (or_left (same_tag u t) (is_on u (path x)) o)
-quiet_step t i x (erase_all u) o n = fate_unless (same_tag u t) goes (or_left (same_tag u t) (is_on u (path x)) o)
+quiet_step t i x (modify_all u vr value) o n = fate_unless (same_tag u t) (becomes vr value) (or_first_false (same_tag u t) (is_on u (path x)) o)
+quiet_step t i x (erase_all u) o n = fate_unless (same_tag u t) goes (or_first_false (same_tag u t) (is_on u (path x)) o)
 quiet_step t i x erase_private o n = fate_unless _ _ n
 quiet_step t i x elsewhere o n = refl
 
@@ -48,17 +49,13 @@ meets-none (modify u vr value) = refl
 meets-none (erase u) = refl
 meets-none (erase_item u j) = refl
 
-pub or_last : (a : Bool) → (a || true) ≡ true
-or_last true = refl
-or_last false = refl
-
 pub item_clashes : (c : Bool) (i j : Index) (x : PathEdit) → (if c then meets (path x) [] else clash (at_index i) (path x) (at_index j) []) ≡ true
 item_clashes true i j x = meets-none x
-item_clashes false i j x = or_last _
+item_clashes false i j x = or_true _
 
 pub keeps_items : (t : Tag) (i : Index) (x : PathEdit) (b : Edit) (n : ℕ) → overlaps (on_path (step t i x)) b ≡ false → erases b t n ≡ false
 keeps_items t i x (on_path (erase_item u j)) n o =
-    and_false _ (selects j n) (step_other t i x u (ap (λ (y : Bool). if same_tag t u then y else false) (sym (item_clashes (same_index i j) i j x)) ∙ o))
+    and_first_false _ (selects j n) (step_other t i x u (ap (λ (y : Bool). if same_tag t u then y else false) (sym (item_clashes (same_index i j) i j x)) ∙ o))
 keeps_items t i x (on_path (step u j y)) n o = refl
 keeps_items t i x (on_path (insert u vr value)) n o = refl
 keeps_items t i x (on_path (modify u vr value)) n o = refl
@@ -68,12 +65,9 @@ keeps_items t i x (erase_all u) n o = refl
 keeps_items t i x erase_private n o = refl
 keeps_items t i x elsewhere n o = refl
 
-pub or_both : (a b : Bool) → a ≡ false → b ≡ false → (a || b) ≡ false
-or_both a b p q = cc
-
 pub all_keep_items : (t : Tag) (i : Index) (x : PathEdit) (es : List Edit) (n : ℕ) → ApartFrom (on_path (step t i x)) es → any_erases es t n ≡ false
 all_keep_items t i x [] n o = refl
-all_keep_items t i x (b ∷ es) n o = or_both _ _ (keeps_items t i x b n o.0) (all_keep_items t i x es n o.1)
+all_keep_items t i x (b ∷ es) n o = or_neither _ _ (keeps_items t i x b n o.0) (all_keep_items t i x es n o.1)
 
 pub depth_case : (c : Bool) (x : PathEdit) (n : ℕ) → steps x ≤ n → depth (if c then on_path x else elsewhere) ≤ n
 depth_case true x n p = p

@@ -2,6 +2,9 @@
 use Rattle.std.proofs.Common.{◌≡◌, ℕ, List, [], ◌∷◌, Bool, true, false, not, ◌||◌, ◌&&◌, refl, sym, ◌∙◌, ap, subst, arith, ◌⊎◌, inl, inr}
 use Rattle.std.specs.Prelude.{if◌then◌else◌, nat_eq}
 use Rattle.std.proofs.lemmas.Bool.Decides.{nat_tests}
+use Rattle.dcm_lemmas.proofs.Lists.{cons_alike}
+use Rattle.dcm_lemmas.proofs.Choice.{chosen_false}
+use Rattle.dcm_lemmas.proofs.Truth.{and_first, and_first_false, and_second, not_true, or_alike, or_first_false, or_second_false}
 use Rattle.dcm_base.specs.declared.tag.Tag.{Tag}
 use Rattle.dcm_base.specs.declared.vr.Vr.{Vr}
 use Rattle.dcm_base.specs.Tables.Tag.{same_tag, is_private}
@@ -9,7 +12,6 @@ use Rattle.dcm_edits.specs.Edit.{Index, number, every, selects, PathEdit, step, 
 use Rattle.dcm_edits.specs.Together.{or_else, first_fate, any_erases, all_within}
 use Rattle.dcm_edits.specs.Overlap.{Mark, at_tag, at_index, path, same_index, ends, is_every, clash, meets, is_on, is_named, overlaps, ApartFrom, is_public}
 use Rattle.dcm_base.proofs.Dictionaries.TagOrder.{tag_is, same_tag_both, number_is, number_self}
-use Rattle.dcm_edits.proofs.Trees.Laws.{or_left, or_right}
 
 abbrev pub IfBecomes : Fate → Type 0 → Type 0
 IfBecomes stays P = Unit {0}
@@ -27,10 +29,6 @@ first_tag (modify tag vr value) = tag
 first_tag (erase tag) = tag
 first_tag (erase_item tag index) = tag
 
-pub chosen_false : (b : Bool) → (if b then true else false) ≡ false → b ≡ false
-chosen_false true p = cc
-chosen_false false p = refl
-
 pub or_true : (b c : Bool) → ((b || true) || c) ≡ true
 or_true true c = refl
 or_true false c = refl
@@ -44,11 +42,11 @@ meets-ends t (erase tag) p = chosen_false _ p
 meets-ends t (erase_item tag index) p = chosen_false _ p
 
 pub is_on-first : (t : Tag) (b : PathEdit) → is_on t (path b) ≡ false → same_tag t (first_tag b) ≡ false
-is_on-first t (step tag index edit) p = or_left _ _ p
-is_on-first t (insert tag vr value) p = or_left _ _ p
-is_on-first t (modify tag vr value) p = or_left _ _ p
-is_on-first t (erase tag) p = or_left _ _ p
-is_on-first t (erase_item tag index) p = or_left _ _ p
+is_on-first t (step tag index edit) p = or_first_false _ _ p
+is_on-first t (insert tag vr value) p = or_first_false _ _ p
+is_on-first t (modify tag vr value) p = or_first_false _ _ p
+is_on-first t (erase tag) p = or_first_false _ _ p
+is_on-first t (erase_item tag index) p = or_first_false _ _ p
 
 pub path_fate-other : (b : PathEdit) (t : Tag) → same_tag (first_tag b) t ≡ false → path_fate b t ≡ stays
 path_fate-other (step tag index edit) t p = refl
@@ -56,18 +54,6 @@ path_fate-other (insert tag vr value) t p = ap (λ (c : Bool). if c then becomes
 path_fate-other (modify tag vr value) t p = ap (λ (c : Bool). if c then becomes vr value else stays) p
 path_fate-other (erase tag) t p = ap (λ (c : Bool). if c then goes else stays) p
 path_fate-other (erase_item tag index) t p = refl
-
-pub and_left : (a b : Bool) → (a && b) ≡ true → a ≡ true
-and_left true b p = refl
-and_left false b p = cc
-
-pub and_right : (a b : Bool) → (a && b) ≡ true → b ≡ true
-and_right true b p = p
-and_right false b p = cc
-
-pub not_true : (a : Bool) → not a ≡ true → a ≡ false
-not_true true p = cc
-not_true false p = refl
 
 -- An edit of the tag t that does not overlap another one, which is public.
 pub is_not_private : (t v : Tag) → same_tag t v ≡ true → is_private t ≡ false → is_private v ≡ false
@@ -87,9 +73,9 @@ pub quiet_ends : (t v : Tag) (a : PathEdit) (b : Edit) → path a ≡ at_tag t �
     → overlaps (on_path a) b ≡ false → fate b v ≡ stays
 quiet_ends t v a (on_path q) e p n o = quiet_path t v q p (meets-ends t q (let P : List Mark → Type 0 = λ l. meets l (path q) ≡ false in subst P e o))
 quiet_ends t v a (modify_all u vr value) e p n o =
-    quiet_all t u v _ p (same_tag_false u t (or_left _ _ (let P : List Mark → Type 0 = λ l. is_on u l ≡ false in subst P e o)))
+    quiet_all t u v _ p (same_tag_false u t (or_first_false _ _ (let P : List Mark → Type 0 = λ l. is_on u l ≡ false in subst P e o)))
 quiet_ends t v a (erase_all u) e p n o =
-    quiet_all t u v _ p (same_tag_false u t (or_left _ _ (let P : List Mark → Type 0 = λ l. is_on u l ≡ false in subst P e o)))
+    quiet_all t u v _ p (same_tag_false u t (or_first_false _ _ (let P : List Mark → Type 0 = λ l. is_on u l ≡ false in subst P e o)))
 quiet_ends t v a erase_private e p n o = ap (λ (c : Bool). if c then goes else stays) (is_not_private t v p n)
 quiet_ends t v a elsewhere e p n o = refl
 
@@ -113,9 +99,9 @@ if_goes false P = tt
 pub quiet : (a b : Edit) (v : Tag) → overlaps a b ≡ false → is_public a ≡ true → IfBecomes (fate a v) (fate b v ≡ stays)
 quiet (on_path (step tag index edit)) b v o n = tt
 quiet (on_path (insert tag vr value)) b v o n =
-    if_becomes (same_tag tag v) vr value _ (λ p. quiet_ends tag v (insert tag vr value) b refl p (not_true _ (and_left _ _ n)) o)
+    if_becomes (same_tag tag v) vr value _ (λ p. quiet_ends tag v (insert tag vr value) b refl p (not_true _ (and_first _ _ n)) o)
 quiet (on_path (modify tag vr value)) b v o n =
-    if_becomes (same_tag tag v) vr value _ (λ p. quiet_ends tag v (modify tag vr value) b refl p (not_true _ (and_left _ _ n)) o)
+    if_becomes (same_tag tag v) vr value _ (λ p. quiet_ends tag v (modify tag vr value) b refl p (not_true _ (and_first _ _ n)) o)
 quiet (on_path (erase tag)) b v o n = if_goes _ _
 quiet (on_path (erase_item tag index)) b v o n = tt
 quiet (modify_all tag vr value) b v o n =
@@ -194,7 +180,7 @@ unnamed_case true t x p = p
 unnamed_case false t x p = refl
 
 pub within_named : (t : Tag) (b : Edit) (v : Tag) (n : ℕ) → is_named t b ≡ false → is_named t (within b v n) ≡ false
-within_named t (on_path (step u j y)) v n o = unnamed_case (same_tag u v && selects j n) t (on_path y) (or_right _ _ o)
+within_named t (on_path (step u j y)) v n o = unnamed_case (same_tag u v && selects j n) t (on_path y) (or_second_false _ _ o)
 within_named t (on_path (insert u vr value)) v n o = refl
 within_named t (on_path (modify u vr value)) v n o = refl
 within_named t (on_path (erase u)) v n o = refl
@@ -209,13 +195,13 @@ within_apart (on_path (step t i x)) (on_path (step u j y)) v n o =
     within_case (same_tag t v && selects i n) (on_path x) _
     (λ p. within_case_after (same_tag u v && selects j n) (on_path x) (on_path y)
     (λ q. steps_meet (same_tag t u) true i j n (path x) (path y)
-    (same_tag_both t u v (and_left _ _ p) (and_left _ _ q)) (and_right _ _ p) (and_right _ _ q) o))
+    (same_tag_both t u v (and_first _ _ p) (and_first _ _ q)) (and_second _ _ p) (and_second _ _ q) o))
 within_apart (on_path (step t i x)) (on_path (insert u vr value)) v n o = elsewhere_after _
 within_apart (on_path (step t i x)) (on_path (modify u vr value)) v n o = elsewhere_after _
 within_apart (on_path (step t i x)) (on_path (erase u)) v n o = elsewhere_after _
 within_apart (on_path (step t i x)) (on_path (erase_item u j)) v n o = elsewhere_after _
-within_apart (on_path (step t i x)) (modify_all u vr value) v n o = within_case (same_tag t v && selects i n) (on_path x) _ (λ p. or_right _ _ o)
-within_apart (on_path (step t i x)) (erase_all u) v n o = within_case (same_tag t v && selects i n) (on_path x) _ (λ p. or_right _ _ o)
+within_apart (on_path (step t i x)) (modify_all u vr value) v n o = within_case (same_tag t v && selects i n) (on_path x) _ (λ p. or_second_false _ _ o)
+within_apart (on_path (step t i x)) (erase_all u) v n o = within_case (same_tag t v && selects i n) (on_path x) _ (λ p. or_second_false _ _ o)
 within_apart (on_path (step t i x)) erase_private v n o = private_after _
 within_apart (on_path (step t i x)) elsewhere v n o = elsewhere_after _
 within_apart (on_path (insert t vr value)) b v n o = refl
@@ -232,7 +218,7 @@ public_case true x p = p
 public_case false x p = refl
 
 pub within_public : (a : Edit) (v : Tag) (n : ℕ) → is_public a ≡ true → is_public (within a v n) ≡ true
-within_public (on_path (step t i x)) v n p = public_case (same_tag t v && selects i n) (on_path x) (and_right _ _ p)
+within_public (on_path (step t i x)) v n p = public_case (same_tag t v && selects i n) (on_path x) (and_second _ _ p)
 within_public (on_path (insert t vr value)) v n p = refl
 within_public (on_path (modify t vr value)) v n p = refl
 within_public (on_path (erase t)) v n p = refl
@@ -253,18 +239,15 @@ IsBlind b v = ((m n : ℕ) → erases b v m ≡ erases b v n) × ((m n : ℕ) �
 abbrev pub AreBlind : List Edit → Tag → Type 0
 AreBlind es v = ((m n : ℕ) → any_erases es v m ≡ any_erases es v n) × ((m n : ℕ) → all_within es v m ≡ all_within es v n)
 
-pub and_false : (a b : Bool) → a ≡ false → (a && b) ≡ false
-and_false a b p = cc
-
 pub blind_path : (b : PathEdit) (v : Tag) → same_tag (first_tag b) v ≡ false → IsBlind (on_path b) v
 blind_path (step u j y) v p = (
   λ m n. refl,
-  λ m n. ap (λ (c : Bool). if c then on_path y else elsewhere) (and_false _ (selects j m) p ∙ sym (and_false _ (selects j n) p)),
+  λ m n. ap (λ (c : Bool). if c then on_path y else elsewhere) (and_first_false _ (selects j m) p ∙ sym (and_first_false _ (selects j n) p)),
 )
 blind_path (insert u vr value) v p = (λ m n. refl, λ m n. refl)
 blind_path (modify u vr value) v p = (λ m n. refl, λ m n. refl)
 blind_path (erase u) v p = (λ m n. refl, λ m n. refl)
-blind_path (erase_item u j) v p = (λ m n. and_false _ (selects j m) p ∙ sym (and_false _ (selects j n) p), λ m n. refl)
+blind_path (erase_item u j) v p = (λ m n. and_first_false _ (selects j m) p ∙ sym (and_first_false _ (selects j n) p), λ m n. refl)
 
 pub item_first : (t : Tag) (i : Index) (b : PathEdit) → meets (at_tag t ∷ at_index i ∷ []) (path b) ≡ false → same_tag t (first_tag b) ≡ false
 item_first t i (step u j y) p = chosen_false _ (ap (λ (x : Bool). if same_tag t u then x else false) (sym (clashes (same_index i j) i j (path y))) ∙ p)
@@ -289,12 +272,6 @@ blind_beside t i (erase_all u) v p o = (λ m n. refl, λ m n. refl)
 blind_beside t i erase_private v p o = (λ m n. refl, λ m n. refl)
 blind_beside t i elsewhere v p o = (λ m n. refl, λ m n. refl)
 
-pub or_alike : (a b c d : Bool) → a ≡ b → c ≡ d → (a || c) ≡ (b || d)
-or_alike a b c d p q = cc
-
-pub cons_alike : (a b : Edit) (es fs : List Edit) → a ≡ b → es ≡ fs → a ∷ es ≡ b ∷ fs
-cons_alike a b es fs p q = cc
-
 pub all_blind_beside : (t : Tag) (i : Index) (es : List Edit) (v : Tag) → same_tag t v ≡ true → ApartFrom (on_path (erase_item t i)) es → AreBlind es v
 all_blind_beside t i [] v p o = (λ m n. refl, λ m n. refl)
 all_blind_beside t i (b ∷ es) v p o =
@@ -311,7 +288,7 @@ counts_alike (on_path (erase_item t i)) es v o = go (same_tag t v) refl
   where
     go : (c : Bool) → same_tag t v ≡ c → CountsAlike (on_path (erase_item t i)) es v
     go true e = inr (all_blind_beside t i es v e o)
-    go false e = inl (λ n. and_false _ (selects i n) e)
+    go false e = inl (λ n. and_first_false _ (selects i n) e)
 counts_alike (on_path (step t i x)) es v o = inl (λ n. refl)
 counts_alike (on_path (insert t vr value)) es v o = inl (λ n. refl)
 counts_alike (on_path (modify t vr value)) es v o = inl (λ n. refl)

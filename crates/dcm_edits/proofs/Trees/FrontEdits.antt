@@ -1,8 +1,8 @@
 -- What the first edit and the others do to a data set as far as it was read.
 use Rattle.std.proofs.Common.{◌≡◌, ℕ, suc, List, [], ◌∷◌, Option, Some, None, Bool, true, false, not, ◌||◌, refl, sym, ◌∙◌, ap, subst, inl, inr}
 use Rattle.std.specs.Prelude.{if◌then◌else◌}
+use Rattle.dcm_lemmas.proofs.Truth.{not_false, or_alike, or_false, or_first_false, or_group, or_second_false}
 use Rattle.dcm_base.specs.declared.tag.Tag.{Tag}
-use Rattle.dcm_base.specs.declared.vr.Vr.{Vr}
 use Rattle.dcm_base.specs.declared.length.Length.{Length}
 use Rattle.dcm_base.specs.Tree.Tree.{Trees, no_tree, leaf, sequence, fragments, Items, no_item, item, then_trees, item_count}
 use Rattle.dcm_base.specs.Tree.Front.{Front, front, OpenTree, nothing_open, open_leaf, open_sequence, open_fragments, OpenItem, no_open_item, open_item}
@@ -11,10 +11,9 @@ use Rattle.dcm_edits.specs.Edit.{NewElement, no_element, new_leaf, new_sequence,
 use Rattle.dcm_edits.specs.Together.{completed, or_else, first_fate, any_erases, all_within, with_all_missing, with_all_missing_so_far, all_changed, all_changed_items, together, all_still_open, all_open_item, all_open_made_whole}
 use Rattle.dcm_edits.specs.Overlap.{ApartFrom, is_public}
 use Rattle.dcm_base.specs.Lines.Ascending.{Ascend, AllBelow, ReachedLast, FrontAscends, OpenAscends}
-use Rattle.dcm_base.proofs.Dictionaries.TagOrder.{tag_is}
-use Rattle.dcm_edits.proofs.Trees.Laws.{chosen, or_left, or_right, or_false, Ascend-put, Leads, NewAscends, then_trees-none}
+use Rattle.dcm_edits.proofs.Trees.Laws.{chosen, Ascend-put, Leads, NewAscends, then_trees-none, front_alike}
 use Rattle.dcm_edits.proofs.Overlapping.Places.{IfBecomes, quiet_all_after, CountsAlike, AreBlind}
-use Rattle.dcm_edits.proofs.Trees.OneByOne.{Ascend-all_changed, all_changed-put, has-all_changed, Turns, Turns-new, Quiet, NewAscends-element_of, NewAscends-completed}
+use Rattle.dcm_edits.proofs.Trees.OneByOne.{Ascend-all_changed, all_changed-put, has-all_changed, Turns, Turns-new, Quiet, NewAscends-element_of, NewAscends-completed, quiet_there}
 
 -- every element but the missing ones
 abbrev pub touched : List Edit → Front → Front
@@ -119,13 +118,6 @@ pub open_item_step : (es : List Edit) (tag : Tag) (n : ℕ) (b : Bool) (declared
 open_item_step es tag n true declared f g e = refl
 open_item_step es tag n false declared f g e = ap (λ (x : Front). if any_erases es tag n then no_open_item else open_item declared x) e
 
-pub front_alike : (w v : Trees) (o p : OpenTree) (reached : Option Tag) (closed : Bool) → w ≡ v → o ≡ p → front w o reached closed ≡ front v p reached closed
-front_alike w v o p reached closed q r = cc
-
-pub open_sequence_alike : (tag : Tag) (vr : Vr) (declared : Length) (i j : Items) (l m : OpenItem) → i ≡ j → l ≡ m
-    → open_sequence tag vr declared i l ≡ open_sequence tag vr declared j m
-open_sequence_alike tag vr declared i j l m p q = cc
-
 -- what is there of the tag is there before and after
 pub has-made : (t tag : Tag) (f : Fate) (o : OpenTree) → has_open t o ≡ same_tag t tag → (same_tag t tag ≡ true → f ≡ stays)
     → (has t (made_whole f tag) || has_open t (while_it_stays f o)) ≡ same_tag t tag
@@ -137,9 +129,6 @@ has-made t tag goes o p h = go (same_tag t tag) refl
     go true q = absurd (let c : goes ≡ stays = h q in (cc))
     go false q = sym q
 
-pub quiet_there : (es : List Edit) (t tag : Tag) → first_fate es t ≡ stays → same_tag t tag ≡ true → first_fate es tag ≡ stays
-quiet_there es t tag p q = rw (← (tag_is t tag q)) p
-
 pub has-open : (es : List Edit) (t : Tag) (o : OpenTree) → first_fate es t ≡ stays
     → (has t (all_open_made_whole es o) || has_open t (all_still_open es o)) ≡ has_open t o
 has-open es t nothing_open p = refl
@@ -148,18 +137,11 @@ has-open es t (open_sequence tag vr declared items last) p =
     has-made t tag (first_fate es tag) (open_sequence tag vr declared (all_changed_items es tag 0 items) (all_open_item es tag (item_count items) last)) refl (quiet_there es t tag p)
 has-open es t (open_fragments tag vr values last) p = has-made t tag (first_fate es tag) (open_fragments tag vr values last) refl (quiet_there es t tag p)
 
-pub or_assoc : (a b c : Bool) → ((a || b) || c) ≡ (a || (b || c))
-or_assoc true b c = refl
-or_assoc false b c = refl
-
-pub or_alike : (a b c d : Bool) → a ≡ b → c ≡ d → (a || c) ≡ (b || d)
-or_alike a b c d p q = cc
-
 pub has-touched : (es : List Edit) (t : Tag) (whole : Trees) (o : OpenTree) → first_fate es t ≡ stays
     → (has t (then_trees (all_changed es whole) (all_open_made_whole es o)) || has_open t (all_still_open es o)) ≡ (has t whole || has_open t o)
 has-touched es t whole o p =
     or_alike _ _ _ _ (has-then_trees t (all_changed es whole) (all_open_made_whole es o)) refl
-    ∙ (or_assoc (has t (all_changed es whole)) (has t (all_open_made_whole es o)) (has_open t (all_still_open es o)) ∙ or_alike _ _ _ _ (has-all_changed es t whole p) (has-open es t o p))
+    ∙ (or_group (has t (all_changed es whole)) (has t (all_open_made_whole es o)) (has_open t (all_still_open es o)) ∙ or_alike _ _ _ _ (has-all_changed es t whole p) (has-open es t o p))
 
 -- a new element comes before the open one
 pub followed_if : (c : Bool) (x y u w b : Trees) → x ≡ then_trees u b → y ≡ then_trees w b → (if c then x else y) ≡ then_trees (if c then u else w) b
@@ -207,10 +189,6 @@ open-put es t x whole reached closed (open_sequence tag vr declared items last) 
 open-put es t x whole reached closed (open_fragments tag vr values last) a p =
     made-put t tag x (first_fate es tag) (passed_open t tag whole reached closed a p)
 
-pub not_false : (a : Bool) → not a ≡ false → a ≡ true
-not_false true p = refl
-not_false false p = cc
-
 -- the choice at a test, on both sides of an equation
 pub chosen_both : {A : Type 0} (b c : Bool) (x y : A) (F : A → Front) (u w : Front) → b ≡ c → (b ≡ true → F x ≡ u) → (b ≡ false → F y ≡ w)
     → F (if b then x else y) ≡ (if c then u else w)
@@ -225,7 +203,7 @@ touched-with_tag es tag x y (front whole o reached closed) q u a =
     chosen_both (has tag whole || has_open tag o || not (is_passed tag reached closed)) _ _ _ (touched es) _ _
     (ap (λ (b : Bool). b || not (is_passed tag reached closed)) (sym (has-touched es tag whole o q)))
     (λ p. refl)
-    (λ p. let passed : is_passed tag reached closed ≡ true = not_false _ (or_right (has tag whole || has_open tag o) _ p) in
+    (λ p. let passed : is_passed tag reached closed ≡ true = not_false _ (or_second_false (has tag whole || has_open tag o) _ p) in
     front_alike _ _ _ _ reached closed
     (ap (λ (t : Trees). then_trees t (all_open_made_whole es o)) (all_changed-put None es tag x y whole u a.0)
     ∙ sym (put-then_trees tag y (all_changed es whole) (all_open_made_whole es o) (open-put es tag y whole reached closed o a.1 passed)))
@@ -310,8 +288,8 @@ pub FrontAscends-with_tag : (tag : Tag) (x : NewElement) (f : Front) → Leads t
 FrontAscends-with_tag tag x (front whole o reached closed) l s a =
     chosen FrontAscends (has tag whole || has_open tag o || not (is_passed tag reached closed)) _ _ (λ p. a)
     (λ p. (
-      Ascend-put None tag x whole l refl (or_left _ _ (or_left (has tag whole || has_open tag o) _ p)) a.0,
-      OpenAscends-put tag x whole reached closed o s (not_false _ (or_right (has tag whole || has_open tag o) _ p)) a.1,
+      Ascend-put None tag x whole l refl (or_first_false _ _ (or_first_false (has tag whole || has_open tag o) _ p)) a.0,
+      OpenAscends-put tag x whole reached closed o s (not_false _ (or_second_false (has tag whole || has_open tag o) _ p)) a.1,
     ))
 
 pub FrontAscends-with_new : (x : NewElement) (f : Front) → NewAscends x → FrontAscends f → FrontAscends (with_new_so_far x f)

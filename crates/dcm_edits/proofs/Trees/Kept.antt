@@ -1,6 +1,7 @@
 -- The elements of a data set as the edits leave them, with the new ones that pass before them.
 use Rattle.std.proofs.Common.{◌≡◌, ℕ, suc, List, [], ◌∷◌, Option, Some, None, Bool, true, false, not, ◌&&◌, refl, sym, ◌∙◌, ap}
 use Rattle.std.specs.Prelude.{if◌then◌else◌}
+use Rattle.dcm_lemmas.proofs.Truth.{or_first}
 use Rattle.dcm_base.specs.declared.tag.Tag.{Tag}
 use Rattle.dcm_base.specs.declared.length.Length.{Length}
 use Rattle.dcm_base.specs.Tree.Tree.{Trees, no_tree, leaf, sequence, fragments, Items, no_item, item, then_trees}
@@ -15,7 +16,7 @@ use Rattle.dcm_edits.proofs.Trees.Laws.{settled_alike}
 use Rattle.dcm_edits.proofs.Overlapping.Items.{all_within_all_apart, all_within_public}
 use Rattle.dcm_edits.proofs.Trees.OneByOne.{Ascend-all_changed}
 use Rattle.dcm_base.specs.Bytes.Spelling.{last_tag}
-use Rattle.dcm_edits.proofs.Trees.NewOnes.{Heads, leaf_heads, sequence_heads, fragments_heads, settled_heads, settled_covers, no_new, within_test, alike, off, and_all, or_is, puts_round}
+use Rattle.dcm_edits.proofs.Trees.NewOnes.{Heads, leaf_heads, sequence_heads, fragments_heads, settled_heads, settled_covers, no_new, within_test, alike, off, and_all, puts_round}
 
 abbrev mutual
   pub kept : List Edit → Option Tag → Trees → Trees
@@ -123,15 +124,15 @@ mutual
       → puts (within_test last q) es (all_changed es set) ≡ then_trees (kept es last set) (puts (within_test (last_tag last set) q) es no_tree)
   kept_within es q last no_tree o n a u = refl
   kept_within es q last (leaf tag vr value rest) o n a u =
-      kept_step es q last tag (leaf tag vr value) (leaf tag vr value) _ _ _ (leaf_heads tag vr value) (λ t y p. or_is _ _ p) o n
+      kept_step es q last tag (leaf tag vr value) (leaf tag vr value) _ _ _ (leaf_heads tag vr value) (λ t y p. or_first _ _ p) o n
       (Ascend-all_changed (Some tag) es rest a.1) a.0 u.0 refl refl (kept_within es q (Some tag) rest o n a.1 u.1)
   kept_within es q last (sequence tag vr declared items rest) o n a u =
       kept_step es q last tag (sequence tag vr declared (all_changed_items es tag 0 items)) (sequence tag vr declared (kept_items es tag 0 items)) _ _ _
-      (sequence_heads tag vr declared (all_changed_items es tag 0 items)) (λ t y p. or_is _ _ p) o n
+      (sequence_heads tag vr declared (all_changed_items es tag 0 items)) (λ t y p. or_first _ _ p) o n
       (Ascend-all_changed (Some tag) es rest a.2) a.0 u.0
       (ap {B = Trees → Trees} (λ (i : Items). sequence tag vr declared i) (items_kept es tag 0 items o n a.1)) refl (kept_within es q (Some tag) rest o n a.2 u.1)
   kept_within es q last (fragments tag vr values rest) o n a u =
-      kept_step es q last tag (fragments tag vr values) (fragments tag vr values) _ _ _ (fragments_heads tag vr values) (λ t y p. or_is _ _ p) o n
+      kept_step es q last tag (fragments tag vr values) (fragments tag vr values) _ _ _ (fragments_heads tag vr values) (λ t y p. or_first _ _ p) o n
       (Ascend-all_changed (Some tag) es rest a.1) a.0 u.0 refl refl (kept_within es q (Some tag) rest o n a.1 u.1)
 
   pub items_kept : (es : List Edit) (tag : Tag) (m : ℕ) (items : Items) → AreApart es → ArePublic es → ItemsAscend items → all_changed_items es tag m items ≡ kept_items es tag m items

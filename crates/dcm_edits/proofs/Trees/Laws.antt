@@ -1,6 +1,7 @@
 -- Laws of the edits of trees.
-use Rattle.std.proofs.Common.{◌≡◌, ℕ, suc, [], ◌∷◌, Option, Some, None, Bool, true, false, ◌||◌, refl, ◌∙◌, ap}
+use Rattle.std.proofs.Common.{◌≡◌, ℕ, suc, [], ◌∷◌, Option, Some, None, Bool, true, false, refl, ◌∙◌, ap}
 use Rattle.std.specs.Prelude.{if◌then◌else◌}
+use Rattle.dcm_lemmas.proofs.Truth.{or_false, or_first_false, or_second_false}
 use Rattle.dcm_base.specs.declared.tag.Tag.{Tag}
 use Rattle.dcm_base.specs.declared.vr.Vr.{Vr}
 use Rattle.dcm_base.specs.declared.length.Length.{Length}
@@ -16,10 +17,6 @@ pub or_else_stays : (f : Fate) → or_else f stays ≡ f
 or_else_stays stays = refl
 or_else_stays (becomes vr value) = refl
 or_else_stays goes = refl
-
-pub or_false : (b : Bool) → (b || false) ≡ b
-or_false true = refl
-or_false false = refl
 
 pub settled_alike : (f g : Fate) (tag : Tag) (k l : Trees → Trees) (r s : Trees) → f ≡ g → k ≡ l → r ≡ s → settled f tag k r ≡ settled g tag l s
 settled_alike f g tag k l r s p q o = cc
@@ -158,14 +155,6 @@ Ascend-weaker last t (leaf tag vr value rest) p a = (is_above_below last t tag p
 Ascend-weaker last t (sequence tag vr declared items rest) p a = (is_above_below last t tag p a.0, a.1, a.2)
 Ascend-weaker last t (fragments tag vr values rest) p a = (is_above_below last t tag p a.0, a.1)
 
-pub or_right : (a b : Bool) → (a || b) ≡ false → b ≡ false
-or_right true b p = cc
-or_right false b p = p
-
-pub or_left : (a b : Bool) → (a || b) ≡ false → a ≡ false
-or_left true b p = cc
-or_left false b p = refl
-
 -- the choice at a test
 pub chosen : {A : Type 0} (P : A → Type 0) (b : Bool) (x y : A) → (b ≡ true → P x) → (b ≡ false → P y) → P (if b then x else y)
 chosen P true x y p q = p refl
@@ -180,13 +169,13 @@ pub Ascend-put : (last : Option Tag) (t : Tag) (x : NewElement) (set : Trees) �
 Ascend-put last t x no_tree b p h a = b last no_tree p tt
 Ascend-put last t x (leaf tag vr value rest) b p h a =
     chosen (Ascend last) (below t tag) _ _ (λ q. b last _ p (q, a.1))
-    (λ q. (a.0, Ascend-put (Some tag) t x rest b (below_other t tag q (or_left _ _ h)) (or_right _ _ h) a.1))
+    (λ q. (a.0, Ascend-put (Some tag) t x rest b (below_other t tag q (or_first_false _ _ h)) (or_second_false _ _ h) a.1))
 Ascend-put last t x (sequence tag vr declared items rest) b p h a =
     chosen (Ascend last) (below t tag) _ _ (λ q. b last _ p (q, a.1, a.2))
-    (λ q. (a.0, a.1, Ascend-put (Some tag) t x rest b (below_other t tag q (or_left _ _ h)) (or_right _ _ h) a.2))
+    (λ q. (a.0, a.1, Ascend-put (Some tag) t x rest b (below_other t tag q (or_first_false _ _ h)) (or_second_false _ _ h) a.2))
 Ascend-put last t x (fragments tag vr values rest) b p h a =
     chosen (Ascend last) (below t tag) _ _ (λ q. b last _ p (q, a.1))
-    (λ q. (a.0, Ascend-put (Some tag) t x rest b (below_other t tag q (or_left _ _ h)) (or_right _ _ h) a.1))
+    (λ q. (a.0, Ascend-put (Some tag) t x rest b (below_other t tag q (or_first_false _ _ h)) (or_second_false _ _ h) a.1))
 
 -- what a new element holds ascends
 abbrev pub NewAscends : NewElement → Type 0

@@ -2,6 +2,7 @@
 use Rattle.std.proofs.Common.{◌≡◌, ℕ, zero, suc, List, [], ◌∷◌, None, Bool, true, false, ◌&&◌, refl, sym, ◌∙◌, ap, subst, arith}
 use Rattle.std.specs.Prelude.{if◌then◌else◌, ◌==◌}
 use Rattle.std.proofs.Math.Dec.{eqb-suc-zero}
+use Rattle.dcm_lemmas.proofs.Truth.{false_true, true_false}
 use Rattle.dcm_base.specs.declared.tag.Tag.{Tag}
 use Rattle.dcm_base.specs.Tables.Tag.{same_tag}
 use Rattle.dcm_base.specs.declared.vr.Vr.{Vr}
@@ -54,9 +55,6 @@ record StepBeside (t : Tag) (e : Edit) : Type 0 where
   pub same : same_tag t tag ≡ true
   pub apart : overlaps e (on_path (step tag (number zero) rest)) ≡ false
 
-not_both : (b : Bool) → b ≡ true → b ≡ false → ⊥
-not_both b e f = cc
-
 around_tag : (t u : Tag) (x : NewElement) → passes_new (same_tag t) (around u x) ≡ true → same_tag t u ≡ true
 around_tag t u no_element e = absurd (cc)
 around_tag t u (new_leaf tag vr value) e = e
@@ -64,16 +62,13 @@ around_tag t u (new_sequence tag held) e = e
 
 around_none : (t u : Tag) (x : NewElement) → passes_new (same_tag t) (around u x) ≡ false → same_tag t u ≡ true → x ≡ no_element
 around_none t u no_element e f = refl
-around_none t u (new_leaf tag vr value) e f = absurd (not_both (same_tag t u) f e)
-around_none t u (new_sequence tag held) e f = absurd (not_both (same_tag t u) f e)
+around_none t u (new_leaf tag vr value) e f = absurd (true_false (same_tag t u) f e)
+around_none t u (new_sequence tag held) e f = absurd (true_false (same_tag t u) f e)
 
 around_held : (es : List Edit) (t u : Tag) (x : NewElement) (held : Trees) → completed es (around u x) ≡ new_sequence t held → (u ≡ t) × (edited_sets (all_within es u 0) (before x no_tree) ≡ held)
 around_held es t u no_element held e = absurd (cc)
 around_held es t u (new_leaf tag vr value) held e = (cc, cc)
 around_held es t u (new_sequence tag set) held e = (cc, cc)
-
-false_true : false ≡ true → ⊥
-false_true e = cc
 
 step_beside : (t : Tag) (held : Trees) (e d : Edit) (es : List Edit) → passes_new (same_tag t) (element_of d) ≡ true → completed es (element_of d) ≡ new_sequence t held → overlaps e d ≡ false → StepBeside t e
 step_beside t held e (on_path (step tag (number zero) rest)) es p c o = record { tag = tag; rest = rest; same = around_tag t tag (new_element rest) p; apart = o }

@@ -2,6 +2,9 @@
 use Rattle.std.proofs.Common.{◌≡◌, ℕ, zero, suc, List, [], ◌∷◌, Option, Some, Bool, true, false, not, ◌||◌, ◌&&◌, refl, sym, ◌∙◌, ap, arith, ◌⊎◌, inl, inr}
 use Rattle.std.specs.Prelude.{if◌then◌else◌}
 use Rattle.std.proofs.lemmas.Bool.Decides.{nat_tests}
+use Rattle.dcm_edits.proofs.Overlapping.Places.{not_both}
+use Rattle.dcm_lemmas.proofs.Choice.{chosen_false, if_false, if_true}
+use Rattle.dcm_lemmas.proofs.Truth.{and_first, and_second, and_second_false, not_true, or_before_false, or_first, or_first_false, or_neither}
 use Rattle.dcm_base.specs.declared.tag.Tag.{Tag}
 use Rattle.dcm_base.specs.declared.vr.Vr.{Vr}
 use Rattle.dcm_base.specs.declared.length.Length.{Length}
@@ -13,23 +16,20 @@ use Rattle.dcm_edits.specs.Together.{completed, or_else, first_fate}
 use Rattle.dcm_edits.specs.Overlap.{overlaps, ApartFrom, AreApart, is_public, ArePublic}
 use Rattle.dcm_base.specs.Lines.Ascending.{Ascend, AllBelow}
 use Rattle.dcm_base.proofs.Dictionaries.TagOrder.{below_trans, below_other, below_other_way, tag_is, is_above_below}
-use Rattle.dcm_edits.proofs.Trees.Laws.{chosen, or_left, Ascend-weaker, Ascend-put, NewAscends}
+use Rattle.dcm_edits.proofs.Trees.Laws.{chosen, Ascend-weaker, Ascend-put, NewAscends}
 use Rattle.dcm_edits.proofs.Overlapping.Items.{quiet_all_step}
 use Rattle.dcm_edits.proofs.Trees.OneByOne.{put-front, NewAscends-element_of, NewAscends-completed}
 use Rattle.dcm_edits.proofs.Trees.FrontEdits.{put-then_trees, has-then_trees, followed_if, AllBelow-put}
-
-or_both : (x y : Bool) → x ≡ false → y ≡ false → (x || y) ≡ false
-or_both x y p q = cc
 
 -- what is above a tag does not have a lesser one
 pub has-above : (t u : Tag) (set : Trees) → Ascend (Some u) set → below t u ≡ true → has t set ≡ false
 has-above t u no_tree a p = refl
 has-above t u (leaf tag vr value rest) a p =
-    or_both _ _ (below_other_way t tag (below_trans t u tag p a.0)) (has-above t tag rest a.1 (below_trans t u tag p a.0))
+    or_neither _ _ (below_other_way t tag (below_trans t u tag p a.0)) (has-above t tag rest a.1 (below_trans t u tag p a.0))
 has-above t u (sequence tag vr declared items rest) a p =
-    or_both _ _ (below_other_way t tag (below_trans t u tag p a.0)) (has-above t tag rest a.2 (below_trans t u tag p a.0))
+    or_neither _ _ (below_other_way t tag (below_trans t u tag p a.0)) (has-above t tag rest a.2 (below_trans t u tag p a.0))
 has-above t u (fragments tag vr values rest) a p =
-    or_both _ _ (below_other_way t tag (below_trans t u tag p a.0)) (has-above t tag rest a.1 (below_trans t u tag p a.0))
+    or_neither _ _ (below_other_way t tag (below_trans t u tag p a.0)) (has-above t tag rest a.1 (below_trans t u tag p a.0))
 
 pub below_not_back : (t u : Tag) → below t u ≡ true → below u t ≡ false
 below_not_back t u p = grind (arith, nat_tests)
@@ -43,12 +43,6 @@ same_not_below t u p = grind (arith, nat_tests)
 pub same_not_above : (t u : Tag) → same_tag t u ≡ true → below t u ≡ false
 same_not_above t u p = grind (arith, nat_tests)
 
-if_false : {A : Type 0} (b : Bool) (x y : A) → b ≡ false → (if b then x else y) ≡ y
-if_false b x y p = rw p refl
-
-pub if_true : {A : Type 0} (b : Bool) (x y : A) → b ≡ true → (if b then x else y) ≡ x
-if_true b x y p = rw p refl
-
 -- a greater new element goes past what is below it
 put-past : (t u : Tag) (w : NewElement) (a b : Trees) → AllBelow u a → below u t ≡ true → put t w (then_trees a b) ≡ then_trees a (put t w b)
 put-past t u w no_tree b p q = refl
@@ -61,9 +55,9 @@ put-past t u w (fragments tag vr values rest) b p q =
 
 has-below : (t u : Tag) (a : Trees) → AllBelow u a → below u t ≡ true → has t a ≡ false
 has-below t u no_tree p q = refl
-has-below t u (leaf tag vr value rest) p q = or_both _ _ (same_above t tag (below_trans tag u t p.0 q)) (has-below t u rest p.1 q)
-has-below t u (sequence tag vr declared items rest) p q = or_both _ _ (same_above t tag (below_trans tag u t p.0 q)) (has-below t u rest p.1 q)
-has-below t u (fragments tag vr values rest) p q = or_both _ _ (same_above t tag (below_trans tag u t p.0 q)) (has-below t u rest p.1 q)
+has-below t u (leaf tag vr value rest) p q = or_neither _ _ (same_above t tag (below_trans tag u t p.0 q)) (has-below t u rest p.1 q)
+has-below t u (sequence tag vr declared items rest) p q = or_neither _ _ (same_above t tag (below_trans tag u t p.0 q)) (has-below t u rest p.1 q)
+has-below t u (fragments tag vr values rest) p q = or_neither _ _ (same_above t tag (below_trans tag u t p.0 q)) (has-below t u rest p.1 q)
 
 -- what the element of a tag does to the new ones: the lesser come before it, the greater after it
 pub record Heads (tag : Tag) (k : Trees → Trees) : Type 0 where
@@ -77,7 +71,7 @@ or_same x y z p q = cc
 
 pub leaf_heads : (tag : Tag) (vr : Vr) (value : List ℕ) → Heads tag (leaf tag vr value)
 leaf_heads tag vr value = record {
-  low_has = λ t x a p. or_both _ _ (below_other_way t tag p) (has-above t tag x a p);
+  low_has = λ t x a p. or_neither _ _ (below_other_way t tag p) (has-above t tag x a p);
   low_put = λ t w x a p. if_true (below t tag) _ _ p;
   high_has = λ t x p. or_same _ _ _ (same_above t tag p) refl;
   high_put = λ t w x p. if_false (below t tag) _ _ (below_not_back tag t p);
@@ -85,7 +79,7 @@ leaf_heads tag vr value = record {
 
 pub sequence_heads : (tag : Tag) (vr : Vr) (declared : Length) (items : Items) → Heads tag (sequence tag vr declared items)
 sequence_heads tag vr declared items = record {
-  low_has = λ t x a p. or_both _ _ (below_other_way t tag p) (has-above t tag x a p);
+  low_has = λ t x a p. or_neither _ _ (below_other_way t tag p) (has-above t tag x a p);
   low_put = λ t w x a p. if_true (below t tag) _ _ p;
   high_has = λ t x p. or_same _ _ _ (same_above t tag p) refl;
   high_put = λ t w x p. if_false (below t tag) _ _ (below_not_back tag t p);
@@ -93,7 +87,7 @@ sequence_heads tag vr declared items = record {
 
 pub fragments_heads : (tag : Tag) (vr : Vr) (values : List (List ℕ)) → Heads tag (fragments tag vr values)
 fragments_heads tag vr values = record {
-  low_has = λ t x a p. or_both _ _ (below_other_way t tag p) (has-above t tag x a p);
+  low_has = λ t x a p. or_neither _ _ (below_other_way t tag p) (has-above t tag x a p);
   low_put = λ t w x a p. if_true (below t tag) _ _ p;
   high_has = λ t x p. or_same _ _ _ (same_above t tag p) refl;
   high_put = λ t w x p. if_false (below t tag) _ _ (below_not_back tag t p);
@@ -114,17 +108,9 @@ settled_heads goes tag k h = none_heads tag
 
 -- ---- one new element, around the element of a tag
 
-pub and_none : (a b : Bool) → b ≡ false → (a && b) ≡ false
-and_none true b p = p
-and_none false b p = refl
-
 pub and_all : (a b : Bool) → b ≡ true → (a && b) ≡ a
 and_all true b p = p
 and_all false b p = refl
-
-pub or_none : (a b : Bool) → b ≡ false → (a || b) ≡ a
-or_none true b p = refl
-or_none false b p = p
 
 not_as : (a b : Bool) → a ≡ b → not a ≡ not b
 not_as a b p = ap not p
@@ -134,14 +120,14 @@ pub off : (p : Tag → Bool) (t : Tag) (w : NewElement) (set : Trees) → p t �
 off p t w set e = ap (λ (b : Bool). if b && not (has t set) then put t w set else set) e
 
 there : (p : Tag → Bool) (t : Tag) (w : NewElement) (set : Trees) → has t set ≡ true → put_at p t w set ≡ set
-there p t w set e = if_false (p t && not (has t set)) _ _ (and_none (p t) (not (has t set)) (ap not e))
+there p t w set e = if_false (p t && not (has t set)) _ _ (and_second_false (p t) (not (has t set)) (ap not e))
 
 pub alike : (p q : Tag → Bool) (t : Tag) (w : NewElement) (set : Trees) → p t ≡ q t → put_at p t w set ≡ put_at q t w set
 alike p q t w set e = ap (λ (b : Bool). if b && not (has t set) then put t w set else set) e
 
 pub has_more : (p : Tag → Bool) (t : Tag) (w : NewElement) (a b : Trees) → has t b ≡ false → put t w b ≡ before w b → put_at p t w (then_trees a b) ≡ then_trees (put_at p t w a) b
 has_more p t w a b h e =
-    ap (λ (c : Bool). if p t && not c then put t w (then_trees a b) else then_trees a b) (has-then_trees t a b ∙ or_none (has t a) (has t b) h)
+    ap (λ (c : Bool). if p t && not c then put t w (then_trees a b) else then_trees a b) (has-then_trees t a b ∙ or_before_false (has t a) (has t b) h)
     ∙ followed_if (p t && not (has t a)) _ _ (put t w a) a b (put-then_trees t w a b e) refl
 
 if_within : (c : Bool) (a x y : Trees) (k : Trees → Trees) → (if c then then_trees a (k x) else then_trees a (k y)) ≡ then_trees a (k (if c then x else y))
@@ -176,7 +162,7 @@ put_round last q tag t k w a x h c b s l u = by_order (below t tag) (same_tag t 
         (sym (off (within_test (Some tag) q) t w x (ap (λ (z : Bool). z && q t) (below_not_back t tag d))))
     by_order false true d f =
         there (within_test last q) t w (then_trees a (k x)) (has-then_trees t a (k x) ∙ or_second (has t a) (has t (k x)) (c f))
-        ∙ ap (λ (y : Trees). then_trees y (k x)) (sym (off (is_between last tag) t w a (and_none (above_last last t) (below t tag) d)))
+        ∙ ap (λ (y : Trees). then_trees y (k x)) (sym (off (is_between last tag) t w a (and_second_false (above_last last t) (below t tag) d)))
         ∙ ap (λ (y : Trees). then_trees (put_at (is_between last tag) t w a) (k y))
         (sym (off (within_test (Some tag) q) t w x (ap (λ (z : Bool). z && q t) (same_not_below t tag f))))
       where
@@ -188,7 +174,7 @@ put_round last q tag t k w a x h c b s l u = by_order (below t tag) (same_tag t 
         has_less (within_test last q) t tag w a x k h b e
         ∙ ap (λ (y : Trees). then_trees a (k y)) (alike (within_test last q) (within_test (Some tag) q) t w x
         (ap (λ (z : Bool). z && q t) (is_above_below last tag t l e ∙ sym e)))
-        ∙ ap (λ (y : Trees). then_trees y (k (put_at (within_test (Some tag) q) t w x))) (sym (off (is_between last tag) t w a (and_none (above_last last t) (below t tag) d)))
+        ∙ ap (λ (y : Trees). then_trees y (k (put_at (within_test (Some tag) q) t w x))) (sym (off (is_between last tag) t w a (and_second_false (above_last last t) (below t tag) d)))
 
 -- ---- no edit puts an element where one goes
 
@@ -223,18 +209,6 @@ makes_step u t (number zero) x p = makes_around u t (new_element x) p
 makes_step u t (number (suc n)) x p = refl
 makes_step u t every x p = refl
 
-not_is : (a : Bool) → not a ≡ true → a ≡ false
-not_is true p = cc
-not_is false p = refl
-
-and_one : (a b : Bool) → (a && b) ≡ true → a ≡ true
-and_one true b p = refl
-and_one false b p = cc
-
-and_two : (a b : Bool) → (a && b) ≡ true → b ≡ true
-and_two true b p = p
-and_two false b p = cc
-
 if_stays : (c : Bool) (vr : Vr) (value : List ℕ) → (if c then becomes vr value else stays) ≡ stays → c ≡ false
 if_stays true vr value p = cc
 if_stays false vr value p = refl
@@ -247,13 +221,6 @@ not_kind : (vr : Vr) (value : List ℕ) (c : Bool) → (if c then becomes vr val
 not_kind vr value true p = cc
 not_kind vr value false p = cc
 
-apart_tags : (t u v : Tag) → same_tag t v ≡ true → same_tag t u ≡ false → same_tag u v ≡ false
-apart_tags t u v p q = grind (arith, nat_tests)
-
-chosen_false : (b : Bool) → (if b then true else false) ≡ false → b ≡ false
-chosen_false true p = cc
-chosen_false false p = refl
-
 private_not : (u v : Tag) → is_private u ≡ false → is_private v ≡ true → same_tag u v ≡ false
 private_not u v p q = by_test (same_tag u v) refl
   where
@@ -265,18 +232,18 @@ stays_goes : stays ≡ goes → ⊥
 stays_goes p = cc
 
 goes_apart : (e b : Edit) (v : Tag) → overlaps e b ≡ false → is_public b ≡ true → fate e v ≡ goes → makes_at v (element_of b) ≡ false
-goes_apart (on_path (erase t)) (on_path (insert u vr value)) v o n p = apart_tags t u v (if_goes _ p) (chosen_false _ o)
-goes_apart (erase_all t) (on_path (insert u vr value)) v o n p = apart_tags t u v (if_goes _ p) (or_left _ _ o)
-goes_apart erase_private (on_path (insert u vr value)) v o n p = private_not u v (not_is _ (and_one _ _ n)) (if_goes _ p)
+goes_apart (on_path (erase t)) (on_path (insert u vr value)) v o n p = not_both t u v (if_goes _ p) (chosen_false _ o)
+goes_apart (erase_all t) (on_path (insert u vr value)) v o n p = not_both t u v (if_goes _ p) (or_first_false _ _ o)
+goes_apart erase_private (on_path (insert u vr value)) v o n p = private_not u v (not_true _ (and_first _ _ n)) (if_goes _ p)
 goes_apart (on_path (insert t w new)) (on_path (insert u vr value)) v o n p = absurd (not_kind w new _ p)
 goes_apart (on_path (modify t w new)) (on_path (insert u vr value)) v o n p = absurd (not_kind w new _ p)
 goes_apart (modify_all t w new) (on_path (insert u vr value)) v o n p = absurd (not_kind w new _ p)
 goes_apart (on_path (step t i x)) (on_path (insert u vr value)) v o n p = absurd (stays_goes p)
 goes_apart (on_path (erase_item t i)) (on_path (insert u vr value)) v o n p = absurd (stays_goes p)
 goes_apart elsewhere (on_path (insert u vr value)) v o n p = absurd (stays_goes p)
-goes_apart (on_path (erase t)) (on_path (step u j y)) v o n p = makes_step u v j y (apart_tags t u v (if_goes _ p) (chosen_false _ o))
-goes_apart (erase_all t) (on_path (step u j y)) v o n p = makes_step u v j y (apart_tags t u v (if_goes _ p) (or_left _ _ o))
-goes_apart erase_private (on_path (step u j y)) v o n p = makes_step u v j y (private_not u v (not_is _ (and_one _ _ n)) (if_goes _ p))
+goes_apart (on_path (erase t)) (on_path (step u j y)) v o n p = makes_step u v j y (not_both t u v (if_goes _ p) (chosen_false _ o))
+goes_apart (erase_all t) (on_path (step u j y)) v o n p = makes_step u v j y (not_both t u v (if_goes _ p) (or_first_false _ _ o))
+goes_apart erase_private (on_path (step u j y)) v o n p = makes_step u v j y (private_not u v (not_true _ (and_first _ _ n)) (if_goes _ p))
 goes_apart (on_path (insert t w new)) (on_path (step u j y)) v o n p = absurd (not_kind w new _ p)
 goes_apart (on_path (modify t w new)) (on_path (step u j y)) v o n p = absurd (not_kind w new _ p)
 goes_apart (modify_all t w new) (on_path (step u j y)) v o n p = absurd (not_kind w new _ p)
@@ -313,7 +280,7 @@ no_new_stays (on_path (step t i x)) es v o n p g = makes_step t v i x (by_test (
   where
     by_test : (b : Bool) → same_tag t v ≡ b → same_tag t v ≡ false
     by_test true e =
-        let r : first_fate es t ≡ stays = quiet_all_step t i x es o (not_is _ (and_one _ _ n)) in
+        let r : first_fate es t ≡ stays = quiet_all_step t i x es o (not_true _ (and_first _ _ n)) in
         absurd (stays_goes (sym r ∙ ap (λ (y : Tag). first_fate es y) (tag_is t v e) ∙ g))
     by_test false e = e
 no_new_stays (on_path (modify t vr value)) es v o n p g = refl
@@ -337,14 +304,10 @@ no_new (e ∷ es) v o n p = by_fate (unless_goes (fate e v) (first_fate es v) p)
     by_fate (inl q) more = (no_new_stays e es v o.0 n.0 q.0 q.1, more q.1)
     by_fate (inr q) more = (no_new_goes e v q, all_goes_apart e es v o.0 n.1 q)
 
-pub or_is : (a b : Bool) → a ≡ true → (a || b) ≡ true
-or_is true b p = refl
-or_is false b p = cc
-
 pub settled_covers : (f : Fate) (tag : Tag) (k : Trees → Trees) (es : List Edit) → ((t : Tag) (x : Trees) → same_tag t tag ≡ true → has t (k x) ≡ true) → (f ≡ goes → NoNew tag es)
     → Covers tag (λ r. settled f tag k r) es
 settled_covers stays tag k es there none = inl there
-settled_covers (becomes vr value) tag k es there none = inl (λ t x p. or_is _ _ p)
+settled_covers (becomes vr value) tag k es there none = inl (λ t x p. or_first _ _ p)
 settled_covers goes tag k es there none = inr (none refl)
 
 -- ---- all new elements, around the element of a tag
@@ -373,19 +336,19 @@ AllBelow-new : (last : Option Tag) (tag : Tag) (w : NewElement) (a : Trees) → 
 AllBelow-new last tag no_element a b = b
 AllBelow-new last tag (new_leaf t vr value) a b =
     chosen (AllBelow tag) (is_between last tag t && not (has t a)) _ _
-    (λ p. AllBelow-put tag t (new_leaf t vr value) a (λ r c. (and_two (above_last last t) _ (and_one (is_between last tag t) _ p), c)) b) (λ p. b)
+    (λ p. AllBelow-put tag t (new_leaf t vr value) a (λ r c. (and_second (above_last last t) _ (and_first (is_between last tag t) _ p), c)) b) (λ p. b)
 AllBelow-new last tag (new_sequence t held) a b =
     chosen (AllBelow tag) (is_between last tag t && not (has t a)) _ _
-    (λ p. AllBelow-put tag t (new_sequence t held) a (λ r c. (and_two (above_last last t) _ (and_one (is_between last tag t) _ p), c)) b) (λ p. b)
+    (λ p. AllBelow-put tag t (new_sequence t held) a (λ r c. (and_second (above_last last t) _ (and_first (is_between last tag t) _ p), c)) b) (λ p. b)
 
 Ascend-new : (tag : Tag) (q : Tag → Bool) (w : NewElement) (x : Trees) → NewAscends w → Ascend (Some tag) x → Ascend (Some tag) (put_new (within_test (Some tag) q) w x)
 Ascend-new tag q no_element x n s = s
 Ascend-new tag q (new_leaf t vr value) x n s =
     chosen (Ascend (Some tag)) ((below tag t && q t) && not (has t x)) _ _
-    (λ p. Ascend-put (Some tag) t (new_leaf t vr value) x (λ l r e b. (e, b)) (and_one (below tag t) _ (and_one (below tag t && q t) _ p)) (not_is _ (and_two (below tag t && q t) _ p)) s) (λ p. s)
+    (λ p. Ascend-put (Some tag) t (new_leaf t vr value) x (λ l r e b. (e, b)) (and_first (below tag t) _ (and_first (below tag t && q t) _ p)) (not_true _ (and_second (below tag t && q t) _ p)) s) (λ p. s)
 Ascend-new tag q (new_sequence t held) x n s =
     chosen (Ascend (Some tag)) ((below tag t && q t) && not (has t x)) _ _
-    (λ p. Ascend-put (Some tag) t (new_sequence t held) x (λ l r e b. (e, (n, tt), b)) (and_one (below tag t) _ (and_one (below tag t && q t) _ p)) (not_is _ (and_two (below tag t && q t) _ p)) s) (λ p. s)
+    (λ p. Ascend-put (Some tag) t (new_sequence t held) x (λ l r e b. (e, (n, tt), b)) (and_first (below tag t) _ (and_first (below tag t && q t) _ p)) (not_true _ (and_second (below tag t && q t) _ p)) s) (λ p. s)
 
 pub puts_round : (last : Option Tag) (q : Tag → Bool) (tag : Tag) (k : Trees → Trees) (es : List Edit) (a x : Trees) → Heads tag k → Covers tag k es → AllBelow tag a
     → Ascend (Some tag) x → above_last last tag ≡ true → ((g : Tag) → below g tag ≡ true → q g ≡ true)

@@ -1,6 +1,7 @@
 -- All edits at once do what the edits do one after another.
 use Rattle.std.proofs.Common.{◌≡◌, ℕ, zero, suc, pred, ◌≤◌, ◌<◌, List, [], ◌∷◌, Option, Some, None, Bool, true, false, ◌||◌, refl, sym, ◌∙◌, ap, subst, arith, inl, inr}
 use Rattle.std.specs.Prelude.{if◌then◌else◌}
+use Rattle.dcm_lemmas.proofs.Truth.{and_first, not_true}
 use Rattle.dcm_base.specs.declared.tag.Tag.{Tag}
 use Rattle.dcm_base.specs.declared.vr.Vr.{Vr}
 use Rattle.dcm_base.specs.declared.vr.Vr.TheVariants.{SQ}
@@ -13,8 +14,8 @@ use Rattle.dcm_edits.specs.Together.{completed, or_else, first_fate, any_erases,
 use Rattle.dcm_edits.specs.Overlap.{ApartFrom, AreApart, is_public, ArePublic}
 use Rattle.dcm_base.specs.Lines.Ascending.{Ascend, ItemsAscend}
 use Rattle.dcm_base.proofs.Dictionaries.TagOrder.{same_tag_self, tag_is}
-use Rattle.dcm_edits.proofs.Trees.Laws.{chosen, Ascend-weaker, NewAscends, Ascend-with_new, completed-none, all_changed-one, all_changed-none}
-use Rattle.dcm_edits.proofs.Overlapping.Places.{IfBecomes, quiet_all_after, not_true, and_left, all_within_apart, within_public, counts_alike, CountsAlike, AreBlind}
+use Rattle.dcm_edits.proofs.Trees.Laws.{chosen, Ascend-weaker, NewAscends, Ascend-with_new, completed-none, all_changed-one, all_changed-none, item_alike}
+use Rattle.dcm_edits.proofs.Overlapping.Places.{IfBecomes, quiet_all_after, all_within_apart, within_public, counts_alike, CountsAlike, AreBlind}
 use Rattle.dcm_edits.proofs.Overlapping.Items.{quiet_all_step, all_keep_items, all_within_all_apart, all_within_public, depth, AreWithin, depth-within, AreWithin-all_within, steps}
 
 -- the new elements of edits, and what later edits make of them
@@ -259,9 +260,6 @@ element_step es goes tag k l r s h q e = e
 pub shifted_item : (b c : Bool) (x y p q r s : Items) → b ≡ c → x ≡ p → y ≡ q → (if b then x else y) ≡ (if c then p else q)
 shifted_item b c x y p q r s e f g = cc
 
-pub item_alike : (declared : Length) (s t : Trees) (r q : Items) → s ≡ t → r ≡ q → item declared s r ≡ item declared t q
-item_alike declared s t r q o p = cc
-
 -- edits that ask the same of every item
 pub all_changed_items-blind : (es : List Edit) (tag : Tag) (m n : ℕ) (items : Items) → AreBlind es tag
     → all_changed_items es tag m items ≡ all_changed_items es tag n items
@@ -349,7 +347,7 @@ quiet_insert tag vr value es o n =
 pub quiet_new : (n : ℕ) (e : Edit) (es : List Edit) → ((m : ℕ) → m < n → SetsAgree m) → Good n e es → Quiet es (element_of e)
 quiet_new n (on_path (insert tag vr value)) es h g = quiet_insert tag vr value es g.apart g.public
 quiet_new n (on_path (step tag (number zero) edit)) es h g =
-    quiet_around es tag (new_element edit) (quiet_all_step tag (number zero) edit es g.apart (not_true _ (and_left _ _ g.public)))
+    quiet_around es tag (new_element edit) (quiet_all_step tag (number zero) edit es g.apart (not_true _ (and_first _ _ g.public)))
     (all_keep_items tag (number zero) edit es 0 g.apart)
     (λ set b. h (pred n) (let s : suc (steps edit) ≤ n = g.short in omega arith) (all_within es tag 0) set
     (all_within_all_apart es tag 0 g.others_apart) (all_within_public es tag 0 g.others_public) (AreWithin-all_within es tag 0 n g.others_short) b)

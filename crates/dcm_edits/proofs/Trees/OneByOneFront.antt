@@ -7,11 +7,11 @@ use Rattle.dcm_edits.specs.Edit.{NewElement, element_of, with_new_so_far, Edit, 
 use Rattle.dcm_edits.specs.Together.{completed, first_fate, any_erases, all_within, with_all_missing_so_far, all_changed, all_changed_items, together, all_still_open, all_open_item, all_open_made_whole}
 use Rattle.dcm_edits.specs.Overlap.{AreApart, ArePublic}
 use Rattle.dcm_base.specs.Lines.Ascending.{FrontAscends, OpenAscends, OpenItemAscends}
-use Rattle.dcm_edits.proofs.Trees.Laws.{chosen, completed-none, together-one, together-none}
+use Rattle.dcm_edits.proofs.Trees.Laws.{chosen, completed-none, together-one, together-none, front_alike, open_sequence_alike, then_trees_alike}
 use Rattle.dcm_edits.proofs.Overlapping.Places.{counts_alike}
 use Rattle.dcm_edits.proofs.Overlapping.Items.{depth, AreWithin}
 use Rattle.dcm_edits.proofs.Trees.OneByOne.{ItemsAscend-all_changed, all_changed-after, all_changed_items-after, Good, Good-within, always_quiet}
-use Rattle.dcm_edits.proofs.Trees.FrontEdits.{touched, together-touched, then_trees-assoc, all_changed-then_trees, all_open_made_whole-after, still_step, same_number, open_item_step, front_alike, open_sequence_alike, touched-with_new, reached_still, Ascend-touched, FrontAscends-with_all_missing}
+use Rattle.dcm_edits.proofs.Trees.FrontEdits.{touched, together-touched, then_trees-assoc, all_changed-then_trees, all_open_made_whole-after, still_step, same_number, open_item_step, touched-with_new, reached_still, Ascend-touched, FrontAscends-with_all_missing}
 
 -- an open element that stays
 pub OpenAscends-still : (f : Fate) (tag : Tag) (w : Trees) (reached : Option Tag) (closed : Bool) (o : OpenTree)
@@ -53,9 +53,6 @@ mutual
 pub FrontAscends-touched : (es : List Edit) (f : Front) → FrontAscends f → FrontAscends (touched es f)
 FrontAscends-touched es (front whole o reached closed) a =
     (Ascend-touched es whole o reached closed a.0 a.1, OpenAscends-touched es whole reached closed o a.1)
-
-pub then_trees_alike : (a b c d : Trees) → a ≡ b → c ≡ d → then_trees a c ≡ then_trees b d
-then_trees_alike a b c d p q = cc
 
 pub after_front : (n : ℕ) (e : Edit) (es : List Edit) (f : Front) → Good n e es → FrontAscends f
     → touched es (touched (e ∷ []) f) ≡ touched (e ∷ es) f → together es (together (e ∷ []) f) ≡ together (e ∷ es) f

@@ -2,6 +2,8 @@
 use Rattle.std.proofs.Common.{◌≡◌, List, [], ◌∷◌, Option, Some, None, Bool, true, false, not, ◌||◌, ◌&&◌, refl, sym, ◌∙◌, ap, subst, arith}
 use Rattle.std.specs.Prelude.{if◌then◌else◌}
 use Rattle.std.proofs.lemmas.Bool.Decides.{nat_tests}
+use Rattle.dcm_lemmas.proofs.Choice.{if_true}
+use Rattle.dcm_lemmas.proofs.Truth.{false_true, or_first, or_first as or_left, or_neither, or_parts, or_second as or_right, true_false}
 use Rattle.dcm_base.specs.declared.tag.Tag.{Tag}
 use Rattle.dcm_base.specs.declared.vr.Vr.TheVariants.{SQ}
 use Rattle.dcm_base.specs.declared.length.Length.TheVariants.{Undefined}
@@ -11,15 +13,11 @@ use Rattle.dcm_base.proofs.Dictionaries.TagOrder.{below_trans, below_other, belo
 use Rattle.dcm_edits.specs.Edit.{Edit, has, put, before, NewElement, no_element, new_leaf, new_sequence, element_of}
 use Rattle.dcm_edits.specs.Together.{completed}
 use Rattle.dcm_edits.specs.NewOnes.{put_at, put_new, puts, above_last, is_between, passes_new, any_new, passing, lesser, least_new, first_new}
-use Rattle.dcm_edits.proofs.Trees.NewOnes.{Heads, leaf_heads, sequence_heads, off, alike, if_true, or_is, below_not_back, same_not_above, same_not_below}
+use Rattle.dcm_edits.proofs.Trees.NewOnes.{Heads, leaf_heads, sequence_heads, off, alike, below_not_back, same_not_above, same_not_below}
 
 -- ---- where none passes
 
-or_parts : (a b : Bool) → (a || b) ≡ false → (a ≡ false) × (b ≡ false)
-or_parts true b e = absurd cc
-or_parts false b e = (refl, e)
-
-new_off : (p : Tag → Bool) (es : List Edit) (w : NewElement) (set : Trees) → passes_new p w ≡ false → put_new p (completed es w) set ≡ set
+pub new_off : (p : Tag → Bool) (es : List Edit) (w : NewElement) (set : Trees) → passes_new p w ≡ false → put_new p (completed es w) set ≡ set
 new_off p es no_element set e = refl
 new_off p es (new_leaf tag vr value) set e = off p tag (new_leaf tag vr value) set e
 new_off p es (new_sequence tag held) set e = off p tag (completed es (new_sequence tag held)) set e
@@ -103,14 +101,11 @@ AllAbove t (leaf tag vr value rest) = (below t tag ≡ true) × AllAbove t rest
 AllAbove t (sequence tag vr declared items rest) = (below t tag ≡ true) × AllAbove t rest
 AllAbove t (fragments tag vr values rest) = (below t tag ≡ true) × AllAbove t rest
 
-or_both : (a b : Bool) → a ≡ false → b ≡ false → (a || b) ≡ false
-or_both a b p q = cc
-
 above_has : (t : Tag) (set : Trees) → AllAbove t set → has t set ≡ false
 above_has t no_tree a = refl
-above_has t (leaf tag vr value rest) a = or_both _ _ (below_other_way t tag a.0) (above_has t rest a.1)
-above_has t (sequence tag vr declared items rest) a = or_both _ _ (below_other_way t tag a.0) (above_has t rest a.1)
-above_has t (fragments tag vr values rest) a = or_both _ _ (below_other_way t tag a.0) (above_has t rest a.1)
+above_has t (leaf tag vr value rest) a = or_neither _ _ (below_other_way t tag a.0) (above_has t rest a.1)
+above_has t (sequence tag vr declared items rest) a = or_neither _ _ (below_other_way t tag a.0) (above_has t rest a.1)
+above_has t (fragments tag vr values rest) a = or_neither _ _ (below_other_way t tag a.0) (above_has t rest a.1)
 
 above_put : (t : Tag) (x : NewElement) (set : Trees) → AllAbove t set → put t x set ≡ before x set
 above_put t x no_tree a = refl
@@ -141,9 +136,6 @@ put_at_above q t u x set h a = by_test (q u && not (has u set))
 -- what holds of the edits that follow, for any set above the tag
 abbrev Then : (Tag → Bool) → (Tag → Bool) → Tag → List Edit → Type 0
 Then p q t es = (set : Trees) → AllAbove t set → any_new (same_tag t) es ≡ true → puts p es set ≡ before (first_new t es) (puts q es set)
-
-false_true : false ≡ true → ⊥
-false_true e = cc
 
 or_second : (a b : Bool) → a ≡ false → (a || b) ≡ true → b ≡ true
 or_second a b e f = cc
@@ -189,9 +181,9 @@ new_first : (p q : Tag → Bool) (t : Tag) (w : NewElement) (es : List Edit) (se
     → puts p es (put_new p (completed es w) set) ≡ before (if passes_new (same_tag t) w then completed es w else first_new t es) (puts q es (put_new q (completed es w) set))
 new_first p q t no_element es set then_so passes there least more above a = then_so set a there
 new_first p q t (new_leaf u vr value) es set then_so passes there least more above a =
-    one_first p q t u (new_leaf u vr value) es set (leaf_heads u vr value) (λ v s e. or_is _ _ e) (λ higher rest b. (higher, b)) then_so passes there least more above a
+    one_first p q t u (new_leaf u vr value) es set (leaf_heads u vr value) (λ v s e. or_first _ _ e) (λ higher rest b. (higher, b)) then_so passes there least more above a
 new_first p q t (new_sequence u held) es set then_so passes there least more above a =
-    one_first p q t u (completed es (new_sequence u held)) es set (sequence_heads u SQ Undefined _) (λ v s e. or_is _ _ e) (λ higher rest b. (higher, b)) then_so passes there least more above a
+    one_first p q t u (completed es (new_sequence u held)) es set (sequence_heads u SQ Undefined _) (λ v s e. or_first _ _ e) (λ higher rest b. (higher, b)) then_so passes there least more above a
 
 pub puts_first : (p q : Tag → Bool) (t : Tag) (es : List Edit) (set : Trees) → p t ≡ true → any_new (same_tag t) es ≡ true → NoneBelow p t es → Above q p t → AllAbove t set
     → puts p es set ≡ before (first_new t es) (puts q es set)
@@ -206,15 +198,12 @@ pub record IsLeast (p : Tag → Bool) (t : Tag) (es : List Edit) : Type 0 where
   pub is_there : any_new (same_tag t) es ≡ true
   pub none_below : NoneBelow p t es
 
-not_both : (b : Bool) → b ≡ true → b ≡ false → ⊥
-not_both b e f = cc
-
 -- the tag of a new element, where it passes, and otherwise nothing
 abbrev Passing : (Tag → Bool) → NewElement → Option Tag → Type 0
 Passing p w None = passes_new p w ≡ false
 Passing p w (Some u) = (p u ≡ true) × (passes_new (same_tag u) w ≡ true) × AtLeast p u w
 
-below_self : (u : Tag) → below u u ≡ false
+pub below_self : (u : Tag) → below u u ≡ false
 below_self u = grind (arith, nat_tests)
 
 passing_is : (p : Tag → Bool) (w : NewElement) → Passing p w (passing p w)
@@ -232,8 +221,8 @@ passing_is p (new_sequence tag held) = by_test (p tag) refl
 
 none_at : (p : Tag → Bool) (t : Tag) (w : NewElement) → passes_new p w ≡ false → AtLeast p t w
 none_at p t no_element e = tt
-none_at p t (new_leaf tag vr value) e = λ h. absurd (not_both (p tag) h e)
-none_at p t (new_sequence tag held) e = λ h. absurd (not_both (p tag) h e)
+none_at p t (new_leaf tag vr value) e = λ h. absurd (true_false (p tag) h e)
+none_at p t (new_sequence tag held) e = λ h. absurd (true_false (p tag) h e)
 
 none_below : (p : Tag → Bool) (t : Tag) (es : List Edit) → any_new p es ≡ false → NoneBelow p t es
 none_below p t [] e = tt
@@ -256,15 +245,8 @@ abbrev Least : (Tag → Bool) → List Edit → Option Tag → Type 0
 Least p es None = any_new p es ≡ false
 Least p es (Some t) = IsLeast p t es
 
-or_left : (a b : Bool) → a ≡ true → (a || b) ≡ true
-or_left a b e = cc
-
-or_right : (a b : Bool) → b ≡ true → (a || b) ≡ true
-or_right true b e = refl
-or_right false b e = e
-
 lesser_is : (p : Tag → Bool) (d : Edit) (es : List Edit) (a b : Option Tag) → Passing p (element_of d) a → Least p es b → Least p (d ∷ es) (lesser a b)
-lesser_is p d es None None h k = or_both _ _ h k
+lesser_is p d es None None h k = or_neither _ _ h k
 lesser_is p d es None (Some t) h k = record { passes = k.passes; is_there = or_right _ _ k.is_there; none_below = (none_at p t (element_of d) h, k.none_below) }
 lesser_is p d es (Some u) None h k = record { passes = h.0; is_there = or_left _ _ h.1; none_below = (h.2, none_below p u es k) }
 lesser_is p d es (Some u) (Some v) h k = by_test (below v u) refl
@@ -329,10 +311,10 @@ if_lesser b x y c e = ap (λ (d : Bool). if d then Some y else Some x) e
 
 lesser_three : (x y z : Tag) (p q r : Bool) → below y x ≡ p → below z y ≡ q → below z x ≡ r → lesser (if p then Some y else Some x) (Some z) ≡ lesser (Some x) (if q then Some z else Some y)
 lesser_three x y z true true true e f g = if_lesser (below z y) y z true f ∙ sym (if_lesser (below z x) x z true g)
-lesser_three x y z true true false e f g = absurd (not_both (below z x) (below_trans z y x f e) g)
+lesser_three x y z true true false e f g = absurd (true_false (below z x) (below_trans z y x f e) g)
 lesser_three x y z true false r e f g = if_lesser (below z y) y z false f ∙ sym (if_lesser (below y x) x y true e)
 lesser_three x y z false true r e f g = refl
-lesser_three x y z false false true e f g = absurd (not_both (below z x) g (lower z x y f e))
+lesser_three x y z false false true e f g = absurd (true_false (below z x) g (lower z x y f e))
 lesser_three x y z false false false e f g = if_lesser (below z x) x z false g ∙ sym (if_lesser (below y x) x y false e)
 
 -- the least of what comes first, and then the least of the rest

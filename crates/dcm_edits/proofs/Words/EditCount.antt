@@ -6,7 +6,7 @@ use Rattle.dcm_base.specs.declared.dictionary.Dictionary.{Dictionary}
 use Rattle.dcm_base.specs.declared.fault.EditRefusal.{EditRefusal}
 use Rattle.dcm_base.specs.declared.fault.EditRefusal.TheVariants.{BadOption, Overlap, TooMany}
 use Rattle.dcm_edits.specs.Edit.{Edit, erase_private}
-use Rattle.dcm_edits.specs.EditWords.{InEdit, OptionWord, private_word, takes_word, unknown_word, option_word, meant_word, meant_from, meant_edits_in, without_dictionary, apart, and_then, at_edit, in_edit, EDIT_LIMIT}
+use Rattle.dcm_edits.specs.EditWords.{InEdit, OptionWord, private_word, takes_word, unknown_word, option_word, meant_word, meant_from, meant_edits_in, without_settings, apart, and_then, at_edit, in_edit, EDIT_LIMIT}
 use Rattle.dcm_edits.specs.Overlap.{first_overlap}
 use Rattle.dcm_edits.proofs.Words.EditWordLemmas.{ok_is, in_turn}
 
@@ -63,4 +63,4 @@ few_from d n (w ∷ v ∷ words) es q =
     (in_turn (nat_lt EDIT_LIMIT n) (in_edit TooMany n) _ es q)
 
 pub few : (d : Dictionary) (words : List (List ℕ)) (es : List Edit) → meant_edits_in d words ≡ Ok es → length es ≤ 64
-few d words es q = let edit_words = without_dictionary words in few_from d 1 edit_words es (by_words (meant_from d 1 edit_words) es q)
+few d words es q = let edit_words = without_settings words in few_from d 1 edit_words es (by_words (meant_from d 1 edit_words) es q)

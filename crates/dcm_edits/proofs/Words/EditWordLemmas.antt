@@ -1,8 +1,10 @@
 -- The edits that words mean do not overlap, and name public tags alone.
-use Rattle.std.proofs.Common.{◌≡◌, ℕ, suc, ◌<◌, ◌%◌, List, [], ◌∷◌, Option, Some, None, Result, Ok, Err, Bool, true, false, cond, not, ◌||◌, ◌&&◌, ◌==◌, refl, sym, ap, subst, arith, eqb-true}
+use Rattle.std.proofs.Common.{◌≡◌, ℕ, suc, ◌<◌, ◌%◌, List, [], ◌∷◌, Option, Some, None, Result, Ok, Err, Bool, true, false, cond, not, ◌==◌, refl, sym, ap, subst, arith, eqb-true}
 use Rattle.std.specs.Prelude.{if◌then◌else◌, nat_lt, find, bytes_eq, option_map, unwrap_or}
 use Rattle.std.specs.List.{list_all, slice_split}
 use Rattle.std.specs.Str.{byte}
+use Rattle.dcm_lemmas.proofs.Options.{mapped}
+use Rattle.dcm_lemmas.proofs.Truth.{and_both, and_first, and_second, or_first_false, or_second_false}
 use Rattle.dcm_base.specs.declared.dictionary.Dictionary.{Dictionary}
 use Rattle.dcm_base.specs.declared.tag.Tag.{Tag}
 use Rattle.dcm_base.specs.declared.vr.Vr.{Vr}
@@ -14,7 +16,7 @@ use Rattle.dcm_base.specs.Laws.{is_even}
 use Rattle.dcm_base.proofs.Dictionaries.Parts.{groups_are_even}
 use Rattle.dcm_edits.specs.Edit.{Index, PathEdit, Edit, erase_private}
 use Rattle.dcm_edits.specs.Overlap.{path, overlaps, overlaps_one, first_overlap, ApartFrom, AreApart, is_public_path, is_public, ArePublic}
-use Rattle.dcm_edits.specs.EditWords.{InEdit, ◌>>=◌, PathPart, TagName, by_number, by_keyword, tag_name, Known, known_tag, known_part, known_parts, Kind, inserts, modifies, erases, modifies_all, erases_all, last_vr, on_steps, step_to, item_or_element, edit_on, value_for, edit_of_known, edit_of_parts, uses_sequences, has_form, cut, cut_at, with_index, index_of, part_of, part_of_cut, prepended, or_refuse, parts_of, meant_edit, meant_word, meant_from, meant_edits_in, without_dictionary, apart, and_then, at_edit, option_word, OptionWord, private_word, takes_word, unknown_word, in_edit, takes_value, EDIT_LIMIT}
+use Rattle.dcm_edits.specs.EditWords.{InEdit, ◌>>=◌, PathPart, TagName, by_number, by_keyword, tag_name, Known, known_tag, known_part, known_parts, Kind, inserts, modifies, erases, modifies_all, erases_all, last_vr, on_steps, step_to, item_or_element, edit_on, value_for, edit_of_known, edit_of_parts, uses_sequences, has_form, cut, cut_at, with_index, index_of, part_of, part_of_cut, prepended, or_refuse, parts_of, meant_edit, meant_word, meant_from, meant_edits_in, without_settings, apart, and_then, at_edit, option_word, OptionWord, private_word, takes_word, unknown_word, in_edit, takes_value, EDIT_LIMIT}
 use Rattle.dcm_base.proofs.DumpsBack.DigitNumbers.{tag_within}
 use Rattle.std.proofs.lemmas.Bool.Decides.{nat_tests}
 
@@ -28,18 +30,10 @@ unfolding EachApart
 each_none [] = tt
 each_none (e ∷ earlier) = (tt, each_none earlier)
 
-or_first : (a b : Bool) → (a || b) ≡ false → a ≡ false
-or_first true b p = cc
-or_first false b p = refl
-
-or_second : (a b : Bool) → (a || b) ≡ false → b ≡ false
-or_second true b p = cc
-or_second false b p = p
-
 each_more : (earlier : List Edit) (b : Edit) (bs : List Edit) → overlaps_one earlier b ≡ false → EachApart earlier bs → EachApart earlier (b ∷ bs)
 unfolding EachApart
 each_more [] b bs p a = tt
-each_more (e ∷ earlier) b bs p a = ((or_first _ _ p, a.0), each_more earlier b bs (or_second (overlaps e b) _ p) a.1)
+each_more (e ∷ earlier) b bs p a = ((or_first_false _ _ p, a.0), each_more earlier b bs (or_second_false (overlaps e b) _ p) a.1)
 
 if_none : {A : Type 0} (c : Bool) (n : A) (r : Option A) → (if c then Some n else r) ≡ None → (c ≡ false) × (r ≡ None)
 if_none true n r p = cc
@@ -53,17 +47,6 @@ first_overlap_none n earlier (b ∷ bs) p =
     let more : AreApart bs × EachApart (b ∷ earlier) bs = first_overlap_none (suc n) (b ∷ earlier) bs q.1 in
     ((more.1.0, more.0), each_more earlier b bs q.0 more.1.1)
 
-and_one : (a b : Bool) → (a && b) ≡ true → a ≡ true
-and_one true b p = refl
-and_one false b p = cc
-
-and_two : (a b : Bool) → (a && b) ≡ true → b ≡ true
-and_two true b p = p
-and_two false b p = cc
-
-and_both : (a b : Bool) → a ≡ true → b ≡ true → (a && b) ≡ true
-and_both a b p q = cc
-
 found_step : (p q : Element → Bool) (x e : Element) (r : Option Element) → q x ≡ true → (r ≡ Some e → (q e ≡ true) × (p e ≡ true))
     → (c : Bool) → c ≡ p x → cond c (Some x) r ≡ Some e → (q e ≡ true) × (p e ≡ true)
 found_step p q x e r h g true t f = let same : x ≡ e = cc in let P : Element → Type 0 = λ y. (q y ≡ true) × (p y ≡ true) in subst P same (h, sym t)
@@ -71,15 +54,11 @@ found_step p q x e r h g false t f = g f
 
 pub found_passes : (p q : Element → Bool) (l : List Element) (e : Element) → list_all q l ≡ true → find p l ≡ Some e → (q e ≡ true) × (p e ≡ true)
 found_passes p q [] e a f = cc
-found_passes p q (x ∷ l) e a f = found_step p q x e (find p l) (and_one _ _ a) (found_passes p q l e (and_two (q x) _ a)) (p x) refl f
+found_passes p q (x ∷ l) e a f = found_step p q x e (find p l) (and_first _ _ a) (found_passes p q l e (and_second (q x) _ a)) (p x) refl f
 
 -- a tag of an even group is public
 even_public : (n : ℕ) → is_even n ≡ true → not (is_private (tag_of_number n)) ≡ true
 even_public n p = grind (arith, nat_tests)
-
-pub mapped : {A B : Type 0} (f : A → B) (o : Option A) (y : B) → option_map f o ≡ Some y → (x : A) × (o ≡ Some x) × (f x ≡ y)
-mapped f (Some x) y p = (x, refl, cc)
-mapped f None y p = cc
 
 pub same_group : (tag : Tag) (n : ℕ) → tag.element < 65536 → (n == tag_number tag) ≡ true → (tag_of_number n).group ≡ tag.group
 same_group tag n h p = let e : n ≡ tag_number tag = eqb-true n (tag_number tag) p in omega (arith, e, h)
@@ -307,4 +286,4 @@ apart_from_words (Err u) es q h = cc
 
 -- the law
 pub edits_are_apart : (d : Dictionary) (words : List (List ℕ)) (es : List Edit) → meant_edits_in d words ≡ Ok es → AreApart es × ArePublic es
-edits_are_apart d words es q = apart_from_words (meant_from d 1 (without_dictionary words)) es q (meant_public d 1 (without_dictionary words))
+edits_are_apart d words es q = apart_from_words (meant_from d 1 (without_settings words)) es q (meant_public d 1 (without_settings words))

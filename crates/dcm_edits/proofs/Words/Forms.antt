@@ -2,6 +2,8 @@
 use Rattle.std.proofs.Common.{◌≡◌, ℕ, suc, ◌<◌, ◌≤◌, List, [], ◌∷◌, length, map, Option, Some, None, Result, Ok, Err, Bool, true, false, cond, ◌&&◌, ◌==◌, refl, sym, ◌∙◌, ap, arith, eqb-true}
 use Rattle.std.specs.Prelude.{nat_le, if◌then◌else◌}
 use Rattle.std.proofs.lemmas.Bool.Decides.{nat_tests}
+use Rattle.dcm_lemmas.proofs.Numbers.{above_not_within}
+use Rattle.dcm_lemmas.proofs.Truth.{and_first, and_first_false, and_second}
 use Rattle.dcm_base.specs.declared.dictionary.Dictionary.{Dictionary}
 use Rattle.dcm_base.specs.declared.fault.EditRefusal.{EditRefusal}
 use Rattle.dcm_base.specs.declared.fault.EditRefusal.TheVariants.{BadOption}
@@ -15,25 +17,6 @@ use Rattle.dcm_edits.proofs.Words.EditWordLemmas.{bind_ok, ok_is}
 use Rattle.dcm_edits.proofs.Words.ManyParts.{map_length}
 
 -- ---- tests
-
-and_one : (a b : Bool) → (a && b) ≡ true → a ≡ true
-and_one true b p = refl
-and_one false b p = cc
-
-and_two : (a b : Bool) → (a && b) ≡ true → b ≡ true
-and_two true b p = p
-and_two false b p = cc
-
-no_first : (a b : Bool) → a ≡ false → (a && b) ≡ false
-no_first true b p = cc
-no_first false b p = refl
-
-no_second : (a b : Bool) → b ≡ false → (a && b) ≡ false
-no_second true b p = p
-no_second false b p = refl
-
-above : (n limit : ℕ) → limit < n → nat_le n limit ≡ false
-above n limit h = grind (arith, nat_tests)
 
 not_within : (n limit : ℕ) → nat_le n limit ≡ false → limit < n
 not_within n limit h = grind (arith, nat_tests)
@@ -51,15 +34,15 @@ leads_count : (ms : List PathPart) → leads ms ≡ true → length ms ≤ suc (
 leads_count [] p = omega arith
 leads_count (m ∷ []) p = omega arith
 leads_count (m ∷ n ∷ ms) p =
-    let more = leads_count (n ∷ ms) (and_two (has_index m) (leads (n ∷ ms)) p) in
-    let one = counted_by (has_index m) (index_count (n ∷ ms)) (and_one (has_index m) (leads (n ∷ ms)) p) in
+    let more = leads_count (n ∷ ms) (and_second (has_index m) (leads (n ∷ ms)) p) in
+    let one = counted_by (has_index m) (index_count (n ∷ ms)) (and_first (has_index m) (leads (n ∷ ms)) p) in
     step (length ms) (index_count (n ∷ ms)) _ more one
   where
     step : (k i j : ℕ) → suc k ≤ suc i → j ≡ suc i → suc (suc k) ≤ suc j
     step k i j h e = omega arith
 
 too_deep_by : (t : Bool) (ms : List PathPart) → leads ms ≡ t → PART_LIMIT < length ms → (t && nat_le (index_count ms) DEPTH_LIMIT) ≡ false
-too_deep_by true ms e h = above (index_count ms) DEPTH_LIMIT (let l = leads_count ms e in omega arith)
+too_deep_by true ms e h = above_not_within (index_count ms) DEPTH_LIMIT (let l = leads_count ms e in omega arith)
 too_deep_by false ms e h = refl
 
 too_deep : (ms : List PathPart) → PART_LIMIT < length ms → (leads ms && nat_le (index_count ms) DEPTH_LIMIT) ≡ false
@@ -74,8 +57,8 @@ long_form : (kind : Kind) (ms : List PathPart) → PART_LIMIT < length ms → ha
 long_form inserts ms h = between (leads ms) (ends_in_tag ms) (nat_le (index_count ms) DEPTH_LIMIT) (too_deep ms h)
 long_form modifies ms h = between (leads ms) (ends_in_tag ms) (nat_le (index_count ms) DEPTH_LIMIT) (too_deep ms h)
 long_form erases ms h = too_deep ms h
-long_form modifies_all ms h = no_first (length ms == 1) (ends_in_tag ms) (not_one (length ms) (omega arith))
-long_form erases_all ms h = no_first (length ms == 1) (ends_in_tag ms) (not_one (length ms) (omega arith))
+long_form modifies_all ms h = and_first_false (length ms == 1) (ends_in_tag ms) (not_one (length ms) (omega arith))
+long_form erases_all ms h = and_first_false (length ms == 1) (ends_in_tag ms) (not_one (length ms) (omega arith))
 
 -- ---- edits on paths without a form, and with one
 
@@ -121,7 +104,7 @@ known_meant d kind text path ms r p q e = some_meant d kind text path ms p ∙ t
 
 -- ---- how many parts there are
 
-known_count : (d : Dictionary) (ms : List PathPart) (ks : List Known) → known_parts d ms ≡ Ok ks → length ks ≡ length ms
+pub known_count : (d : Dictionary) (ms : List PathPart) (ks : List Known) → known_parts d ms ≡ Ok ks → length ks ≡ length ms
 known_count d [] ks p = let is : [] ≡ ks = ok_is _ _ p in ap length (sym is)
 known_count d (m ∷ ms) ks p =
     let first = bind_ok (known_part d m.name m.index) (λ k. known_parts d ms >>= λ more. Ok (k ∷ more)) ks p in
@@ -137,18 +120,18 @@ one_some : (n : ℕ) → (n == 1) ≡ true → 0 < n
 one_some n p = let e = eqb-true n 1 p in omega arith
 
 form_some : (kind : Kind) (ms : List PathPart) → has_form kind ms ≡ true → 0 < length ms
-form_some inserts ms p = leads_some ms (and_one (leads ms) (ends_in_tag ms) (and_one (leads ms && ends_in_tag ms) _ p))
-form_some modifies ms p = leads_some ms (and_one (leads ms) (ends_in_tag ms) (and_one (leads ms && ends_in_tag ms) _ p))
-form_some erases ms p = leads_some ms (and_one (leads ms) _ p)
-form_some modifies_all ms p = one_some (length ms) (and_one (length ms == 1) _ p)
-form_some erases_all ms p = one_some (length ms) (and_one (length ms == 1) _ p)
+form_some inserts ms p = leads_some ms (and_first (leads ms) (ends_in_tag ms) (and_first (leads ms && ends_in_tag ms) _ p))
+form_some modifies ms p = leads_some ms (and_first (leads ms) (ends_in_tag ms) (and_first (leads ms && ends_in_tag ms) _ p))
+form_some erases ms p = leads_some ms (and_first (leads ms) _ p)
+form_some modifies_all ms p = one_some (length ms) (and_first (length ms == 1) _ p)
+form_some erases_all ms p = one_some (length ms) (and_first (length ms == 1) _ p)
 
 form_alone : (kind : declared.Kind) (ms : List PathPart) → has_form (kind_as kind) ms ≡ true → is_of_all kind ≡ true → length ms ≡ 1
 form_alone kinds.Inserts ms p q = cc
 form_alone kinds.Modifies ms p q = cc
 form_alone kinds.Erases ms p q = cc
-form_alone kinds.ModifiesAll ms p q = eqb-true (length ms) 1 (and_one (length ms == 1) _ p)
-form_alone kinds.ErasesAll ms p q = eqb-true (length ms) 1 (and_one (length ms == 1) _ p)
+form_alone kinds.ModifiesAll ms p q = eqb-true (length ms) 1 (and_first (length ms == 1) _ p)
+form_alone kinds.ErasesAll ms p q = eqb-true (length ms) 1 (and_first (length ms == 1) _ p)
 
 pub fit : (d : Dictionary) (kind : declared.Kind) (ms : List PathPart) (ks : List declared_known.Known) → has_form (kind_as kind) ms ≡ true → known_parts d ms ≡ Ok (map known_as ks) → Fit kind ks
 fit d kind ms ks p q =

@@ -9,12 +9,12 @@ use Rattle.dcm_base.specs.declared.fault.EditRefusal.TheVariants.{BadOption, Too
 use Rattle.dcm_edits.specs.declared.fault.EditFault.{EditFault}
 use Rattle.dcm_edits.specs.declared.fault.EditFault.TheVariants.{Refused, Memory}
 use Rattle.dcm_edits.specs.Edit.{Edit, erase_private}
-use Rattle.dcm_edits.specs.EditWords.{◌>>=◌, InEdit, OptionWord, private_word, takes_word, unknown_word, option_word, meant_word, without_dictionary, dictionary_word, meant_from, and_then, at_edit, in_edit, apart, EDIT_LIMIT}
+use Rattle.dcm_edits.specs.EditWords.{◌>>=◌, InEdit, OptionWord, private_word, takes_word, unknown_word, option_word, meant_word, without_settings, is_setting, meant_from, and_then, at_edit, in_edit, apart, EDIT_LIMIT}
 use Rattle.dcm_edits.specs.Making.{edit_after, first_edit, after_edits, texts, MakesFrom, MakesAll}
 use Rattle.dcm_edits.specs.Meaning.{AreMeant}
 use Rattle.dcm_edits.specs.Overlap.{first_overlap}
 use Rattle.dcm_edits.proofs.Words.EditWordLemmas.{ok_is}
-use Rattle.dcm_edits.proofs.Words.DictionaryWords.{with_kept, left_out_at, first_kept_at, some_kept_at}
+use Rattle.dcm_edits.proofs.Words.SettingWords.{with_kept, left_out_at, first_kept_at, some_kept_at}
 
 abbrev pub First : Type 0
 First = Edit × List (List ℕ)
@@ -95,28 +95,28 @@ within n h = grind (arith, nat_tests)
 past : (n : ℕ) → EDIT_LIMIT < n → nat_lt EDIT_LIMIT n ≡ true
 past n h = grind (arith, nat_tests)
 
-pub all_done : (d : Dictionary) (es : List Edit) (n k : ℕ) (ws : List (Bor (List ℕ))) → length ws ≤ k → after_edits es (meant_from d n (without_dictionary (texts (drop k ws)))) ≡ Ok es
-all_done d es n k ws h = ap (λ l. after_edits es (meant_from d n (without_dictionary l))) (none_left k ws h) ∙ after_none es
+pub all_done : (d : Dictionary) (es : List Edit) (n k : ℕ) (ws : List (Bor (List ℕ))) → length ws ≤ k → after_edits es (meant_from d n (without_settings (texts (drop k ws)))) ≡ Ok es
+all_done d es n k ws h = ap (λ l. after_edits es (meant_from d n (without_settings l))) (none_left k ws h) ∙ after_none es
 
 -- the words from place k on
 module _ (d : Dictionary) (es : List Edit) (n k : ℕ) (ws : List (Bor (List ℕ))) (b : Bor (List ℕ)) (h : k < length ws) where
   abbrev so_far : Result (List Edit) InEdit
-  so_far = after_edits es (meant_from d n (without_dictionary (texts (drop k ws))))
+  so_far = after_edits es (meant_from d n (without_settings (texts (drop k ws))))
 
-  pub passed : is_some (dictionary_word (get_or ws k b).now) ≡ true → so_far ≡ after_edits es (meant_from d n (without_dictionary (texts (drop (k + 1) ws))))
+  pub passed : is_setting (get_or ws k b).now ≡ true → so_far ≡ after_edits es (meant_from d n (without_settings (texts (drop (k + 1) ws))))
   passed p = ap (λ l. after_edits es (meant_from d n l)) (left_out_at k ws b h p)
 
-  module _ (p : is_some (dictionary_word (get_or ws k b).now) ≡ false) where
+  module _ (p : is_setting (get_or ws k b).now ≡ false) where
     pub too_many : EDIT_LIMIT < n → so_far ≡ Err (in_edit TooMany n)
-    too_many m = ap (after_edits es) (stops d n (without_dictionary (texts (drop k ws))) (past n m) (some_kept_at k ws b h p)) ∙ after_err es (in_edit TooMany n)
+    too_many m = ap (after_edits es) (stops d n (without_settings (texts (drop k ws))) (past n m) (some_kept_at k ws b h p)) ∙ after_err es (in_edit TooMany n)
 
     first_leads : (r : Result First EditRefusal) → n ≤ EDIT_LIMIT → first_edit d (texts (drop k ws)) ≡ r → so_far ≡ after_edits es (leads_to d n (r >>= with_kept))
     first_leads r m q =
         ap (after_edits es)
-        (goes d n (without_dictionary (texts (drop k ws))) (within n m) (some_kept_at k ws b h p) ∙ ap (leads_to d n) (first_kept_at d k ws b h p ∙ ap (λ x. x >>= with_kept) q))
+        (goes d n (without_settings (texts (drop k ws))) (within n m) (some_kept_at k ws b h p) ∙ ap (leads_to d n) (first_kept_at d k ws b h p ∙ ap (λ x. x >>= with_kept) q))
 
-    pub one_edit : (e : Edit) (rest : List (List ℕ)) → n ≤ EDIT_LIMIT → first_edit d (texts (drop k ws)) ≡ Ok (e, rest) → so_far ≡ after_edits (es ++ e ∷ []) (meant_from d (suc n) (without_dictionary rest))
-    one_edit e rest m q = first_leads (Ok (e, rest)) m q ∙ sym (after_more es e (meant_from d (suc n) (without_dictionary rest)))
+    pub one_edit : (e : Edit) (rest : List (List ℕ)) → n ≤ EDIT_LIMIT → first_edit d (texts (drop k ws)) ≡ Ok (e, rest) → so_far ≡ after_edits (es ++ e ∷ []) (meant_from d (suc n) (without_settings rest))
+    one_edit e rest m q = first_leads (Ok (e, rest)) m q ∙ sym (after_more es e (meant_from d (suc n) (without_settings rest)))
 
     refused : (u : EditRefusal) → n ≤ EDIT_LIMIT → first_edit d (texts (drop k ws)) ≡ Err u → so_far ≡ Err (in_edit u n)
     refused u m q = first_leads (Err u) m q ∙ after_err es (in_edit u n)
@@ -141,5 +141,5 @@ edits_are : (ws : List (List ℕ)) (es : List Edit) (r : Result (List Edit) InEd
 edits_are ws es (Ok fs) p q = let e : fs ≡ es = ok_is fs es p in ap apart e ∙ not_overlapping es (first_overlap 1 [] es) q
 edits_are ws es (Err u) p q = cc
 
-pub are_meant : (d : Dictionary) (ws : List (List ℕ)) (es : List Edit) → meant_from d 1 (without_dictionary ws) ≡ Ok es → None ≡ first_overlap 1 [] es → AreMeant es
-are_meant d ws es p q = record { dictionary = d; words = ws; mean = edits_are (without_dictionary ws) es (meant_from d 1 (without_dictionary ws)) p (sym q) }
+pub are_meant : (d : Dictionary) (ws : List (List ℕ)) (es : List Edit) → meant_from d 1 (without_settings ws) ≡ Ok es → None ≡ first_overlap 1 [] es → AreMeant es
+are_meant d ws es p q = record { dictionary = d; words = ws; mean = edits_are (without_settings ws) es (meant_from d 1 (without_settings ws)) p (sym q) }

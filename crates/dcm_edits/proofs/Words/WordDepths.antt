@@ -1,8 +1,9 @@
 -- The paths that words name have at most 64 steps.
-use Rattle.std.proofs.Common.{◌≡◌, ℕ, suc, ◌≤◌, List, [], ◌∷◌, Option, Some, None, Ok, Bool, true, false, ◌&&◌, refl, sym, ◌∙◌, ap, subst, arith}
+use Rattle.std.proofs.Common.{◌≡◌, ℕ, suc, ◌≤◌, List, [], ◌∷◌, Option, Some, None, Ok, Bool, true, ◌&&◌, refl, sym, ◌∙◌, ap, subst, arith}
 use Rattle.std.specs.Prelude.{if◌then◌else◌, nat_le}
 use Rattle.std.specs.Option.{is_some}
 use Rattle.std.proofs.lemmas.Bool.{leb-true}
+use Rattle.dcm_lemmas.proofs.Truth.{and_second}
 use Rattle.dcm_base.specs.declared.dictionary.Dictionary.{Dictionary}
 use Rattle.dcm_base.specs.declared.tag.Tag.{Tag}
 use Rattle.dcm_edits.specs.Edit.{Index, PathEdit, insert, modify}
@@ -39,10 +40,6 @@ end_few : (tag : Tag) (o : Option Index) → steps (item_or_element tag o) ≡ 0
 end_few tag None = refl
 end_few tag (Some index) = refl
 
-and_two : (a b : Bool) → (a && b) ≡ true → b ≡ true
-and_two true b p = p
-and_two false b p = absurd cc
-
 few_parts : (d : Dictionary) (ms : List PathPart) (ks : List Known) → nat_le (index_count ms) DEPTH_LIMIT ≡ true → known_parts d ms ≡ Ok ks → known_count ks ≤ 64
 few_parts d ms ks h p = subst (λ (n : ℕ). n ≤ 64) (sym (count_same d ms ks p)) (leb-true (index_count ms) DEPTH_LIMIT h)
 
@@ -52,10 +49,10 @@ less a b p q = omega arith
 -- by the form of the path
 pub edit_depth : (d : Dictionary) (kind : Kind) (ms : List PathPart) (k : Known) (ks : List Known) (value : List ℕ) → has_form kind ms ≡ true → known_parts d ms ≡ Ok (k ∷ ks) → depth (edit_on kind k ks value) ≤ 64
 edit_depth d inserts ms k ks value f p =
-    less _ _ (steps_few (λ x. insert x.tag x.vr value) k ks (λ x. refl)) (few_parts d ms (k ∷ ks) (and_two (leads ms && ends_in_tag ms) (nat_le (index_count ms) DEPTH_LIMIT) f) p)
+    less _ _ (steps_few (λ x. insert x.tag x.vr value) k ks (λ x. refl)) (few_parts d ms (k ∷ ks) (and_second (leads ms && ends_in_tag ms) (nat_le (index_count ms) DEPTH_LIMIT) f) p)
 edit_depth d modifies ms k ks value f p =
-    less _ _ (steps_few (λ x. modify x.tag x.vr value) k ks (λ x. refl)) (few_parts d ms (k ∷ ks) (and_two (leads ms && ends_in_tag ms) (nat_le (index_count ms) DEPTH_LIMIT) f) p)
+    less _ _ (steps_few (λ x. modify x.tag x.vr value) k ks (λ x. refl)) (few_parts d ms (k ∷ ks) (and_second (leads ms && ends_in_tag ms) (nat_le (index_count ms) DEPTH_LIMIT) f) p)
 edit_depth d erases ms k ks value f p =
-    less _ _ (steps_few (λ x. item_or_element x.tag x.index) k ks (λ x. end_few x.tag x.index)) (few_parts d ms (k ∷ ks) (and_two (leads ms) (nat_le (index_count ms) DEPTH_LIMIT) f) p)
+    less _ _ (steps_few (λ x. item_or_element x.tag x.index) k ks (λ x. end_few x.tag x.index)) (few_parts d ms (k ∷ ks) (and_second (leads ms) (nat_le (index_count ms) DEPTH_LIMIT) f) p)
 edit_depth d modifies_all ms k ks value f p = omega arith
 edit_depth d erases_all ms k ks value f p = omega arith

@@ -3,6 +3,8 @@ use Rattle.std.proofs.Common.{◌≡◌, ℕ, ◌≤◌, List, [], ◌∷◌, le
 use Rattle.std.specs.Prelude.{if◌then◌else◌, ◌==◌, nat_le, option_map, bytes_eq, codes}
 use Rattle.std.specs.Str.{byte}
 use Rattle.std.proofs.lemmas.Bool.{leb-true}
+use Rattle.dcm_lemmas.proofs.Options.{mapped, some_is}
+use Rattle.dcm_lemmas.proofs.Truth.{and_second}
 use Rattle.dcm_base.specs.declared.dictionary.Dictionary.{Dictionary}
 use Rattle.dcm_base.specs.declared.tag.Tag.{Tag}
 use Rattle.dcm_base.specs.declared.vr.Vr.{Vr}
@@ -18,22 +20,11 @@ use Rattle.dcm_edits.proofs.Words.IndexNumbers.{nine_digits}
 
 -- ---- numbers of at most nine digits
 
-some_is : {A : Type 0} (x y : A) → (let o : Option A = Some x in o ≡ Some y) → x ≡ y
-some_is x y p = cc
-
-and_two : (a b : Bool) → (a && b) ≡ true → b ≡ true
-and_two true b p = p
-and_two false b p = absurd cc
-
-mapped : {A B : Type 0} (f : A → B) (o : Option A) (y : B) → option_map f o ≡ Some y → (x : A) × (o ≡ Some x) × (f x ≡ y)
-mapped f (Some x) y p = (x, refl, cc)
-mapped f None y p = absurd cc
-
 digits_short : (text : List ℕ) (i : Index) → (if nat_le 1 (length text) && nat_le (length text) 9 then option_map number (number_in 10 0 text) else None) ≡ Some i → HasShortIndex i
 digits_short text i p =
     let q = if_some (nat_le 1 (length text) && nat_le (length text) 9) (option_map number (number_in 10 0 text)) i p in
     let n = mapped number (number_in 10 0 text) i q.1 in
-    let few : length text ≤ 9 = leb-true (length text) 9 (and_two (nat_le 1 (length text)) (nat_le (length text) 9) q.0) in
+    let few : length text ≤ 9 = leb-true (length text) 9 (and_second (nat_le 1 (length text)) (nat_le (length text) 9) q.0) in
     subst HasShortIndex n.2 (nine_digits text n.0 few n.1)
 
 index_short : (text : List ℕ) (i : Index) → index_of text ≡ Some i → HasShortIndex i

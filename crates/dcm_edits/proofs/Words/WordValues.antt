@@ -1,10 +1,12 @@
 -- The new values that words name are of no sequences.
-use Rattle.std.proofs.Common.{◌≡◌, ◌≤◌, ℕ, suc, List, [], ◌∷◌, length, Option, Some, None, Result, Ok, Err, Bool, true, false, not, ◌&&◌, refl, sym, ◌∙◌, ap, subst, arith}
+use Rattle.std.proofs.Common.{◌≡◌, ◌≤◌, ℕ, suc, List, [], ◌∷◌, length, Option, Some, None, Result, Ok, Err, Bool, true, false, not, ◌&&◌, refl, ◌∙◌, ap, subst, arith}
 use Rattle.std.specs.Prelude.{if◌then◌else◌, ◌==◌, nat_lt, unwrap_or}
 use Rattle.std.specs.List.{slice_split}
 use Rattle.std.specs.Str.{byte}
 use Rattle.std.specs.Option.{is_some}
 use Rattle.std.proofs.lemmas.Bool.{eqb-true}
+use Rattle.dcm_edits.proofs.Words.Forms.{known_count}
+use Rattle.dcm_lemmas.proofs.Truth.{and_first, and_second, not_true}
 use Rattle.dcm_base.specs.declared.dictionary.Dictionary.{Dictionary}
 use Rattle.dcm_base.specs.declared.tag.Tag.{Tag}
 use Rattle.dcm_base.specs.declared.vr.Vr.{Vr}
@@ -19,7 +21,7 @@ use Rattle.dcm_base.specs.Bytes.Spelling.{form}
 use Rattle.dcm_edits.specs.Edit.{Index, PathEdit, insert, modify, Edit, erase_private}
 use Rattle.dcm_edits.specs.Overlap.{first_overlap}
 use Rattle.dcm_edits.specs.Bounds.{PathHasValue, HasValue, HaveValues, HasShortIndexes, HaveShortIndexes, depth, AreWithin}
-use Rattle.dcm_edits.specs.EditWords.{InEdit, ◌>>=◌, or_refuse, PathPart, Known, known_part, known_parts, parts_of, has_index, leads, ends_in_tag, has_form, is_indexed, uses_sequences, takes_value, Kind, inserts, modifies, erases, modifies_all, erases_all, last_vr, on_steps, step_to, item_or_element, edit_on, value_for, edit_of_known, edit_of_parts, meant_edit, meant_word, meant_from, meant_edits_in, unless_dictionary, without_dictionary, takes_next, dictionary_word, apart, and_then, at_edit, in_edit, OptionWord, takes_word, private_word, unknown_word, option_word, cut_at, EDIT_LIMIT}
+use Rattle.dcm_edits.specs.EditWords.{InEdit, ◌>>=◌, or_refuse, PathPart, Known, known_part, known_parts, parts_of, has_index, leads, ends_in_tag, has_form, is_indexed, uses_sequences, takes_value, Kind, inserts, modifies, erases, modifies_all, erases_all, last_vr, on_steps, step_to, item_or_element, edit_on, value_for, edit_of_known, edit_of_parts, meant_edit, meant_word, meant_from, meant_edits_in, unless_setting, without_settings, takes_next, is_setting, apart, and_then, at_edit, in_edit, OptionWord, takes_word, private_word, unknown_word, option_word, cut_at, EDIT_LIMIT}
 use Rattle.dcm_edits.proofs.Words.EditWordLemmas.{bind_ok, ok_is, if_ok, or_refused, in_turn}
 use Rattle.dcm_edits.proofs.Words.WordDepths.{edit_depth}
 use Rattle.dcm_edits.proofs.Words.WordIndexes.{AllShortKnown, part_index, parts_short, known_short, edit_short}
@@ -34,14 +36,6 @@ unfolding form
 form_of SQ e = absurd cc
 form_of _ e = refl
 
-pub and_one : (a b : Bool) → (a && b) ≡ true → a ≡ true
-and_one true b p = refl
-and_one false b p = absurd cc
-
-pub and_two : (a b : Bool) → (a && b) ≡ true → b ≡ true
-and_two true b p = p
-and_two false b p = absurd cc
-
 pub plain_last : (i s : Bool) → i ≡ false → (if i then s else not (true && s)) ≡ true → s ≡ false
 plain_last true s p q = absurd cc
 plain_last false true p q = absurd cc
@@ -53,8 +47,8 @@ step_has tag (Some index) edit h = h
 
 -- a path that ends in a value
 steps_have : (at_end : Known → PathEdit) (k : Known) (ks : List Known) → ((x : Known) → is_sequence x.vr ≡ false → PathHasValue (at_end x)) → EndsPlain (k ∷ ks) → uses_sequences true (k ∷ ks) ≡ true → PathHasValue (on_steps at_end k ks)
-steps_have at_end k [] h p u = h k (plain_last (is_indexed k) (is_sequence k.vr) p (and_one _ true u))
-steps_have at_end k (l ∷ ks) h p u = step_has k.tag k.index (on_steps at_end l ks) (steps_have at_end l ks h p (and_two (if is_indexed k then is_sequence k.vr else not (true && is_sequence k.vr)) _ u))
+steps_have at_end k [] h p u = h k (plain_last (is_indexed k) (is_sequence k.vr) p (and_first _ true u))
+steps_have at_end k (l ∷ ks) h p u = step_has k.tag k.index (on_steps at_end l ks) (steps_have at_end l ks h p (and_second (if is_indexed k then is_sequence k.vr else not (true && is_sequence k.vr)) _ u))
 
 plain_erase : (tag : Tag) (o : Option Index) → PathHasValue (item_or_element tag o)
 plain_erase tag None = tt
@@ -69,7 +63,7 @@ edit_has : (kind : Kind) (k : Known) (ks : List Known) (value : List ℕ) → En
 edit_has inserts k ks value p u l = steps_have (λ x. insert x.tag x.vr value) k ks (λ x s. form_of x.vr s) p (u refl)
 edit_has modifies k ks value p u l = steps_have (λ x. modify x.tag x.vr value) k ks (λ x s. form_of x.vr s) p (u refl)
 edit_has erases k ks value p u l = erases_have (λ x. item_or_element x.tag x.index) k ks (λ x. plain_erase x.tag x.index)
-edit_has modifies_all k [] value p u l = form_of k.vr (plain_last (is_indexed k) (is_sequence k.vr) p (and_one _ true (u refl)))
+edit_has modifies_all k [] value p u l = form_of k.vr (plain_last (is_indexed k) (is_sequence k.vr) p (and_first _ true (u refl)))
 edit_has modifies_all k (m ∷ ks) value p u l = absurd (two (length ks) (l refl))
   where
     two : (n : ℕ) → suc (suc n) ≡ 1 → ⊥
@@ -77,10 +71,6 @@ edit_has modifies_all k (m ∷ ks) value p u l = absurd (two (length ks) (l refl
 edit_has erases_all k ks value p u l = tt
 
 -- ---- the last part of a path that ends in a tag, and the number of parts
-
-not_is : (a : Bool) → not a ≡ true → a ≡ false
-not_is true p = absurd cc
-not_is false p = refl
 
 ends_more : (k : Known) (ks : List Known) → EndsPlain ks → EndsPlain (k ∷ ks)
 ends_more k [] p = absurd cc
@@ -90,18 +80,11 @@ pub parts_end : (d : Dictionary) (ms : List PathPart) (ks : List Known) → know
 parts_end d [] ks p e = absurd cc
 parts_end d (m ∷ []) ks p e =
     let first = bind_ok (known_part d m.name m.index) (λ k. known_parts d [] >>= λ more. Ok (k ∷ more)) ks p in
-    subst (λ (l : List Known). EndsPlain l) (ok_is (first.0 ∷ []) ks first.2) (ap (λ (o : Option Index). is_some o) (part_index d m.name m.index first.0 first.1) ∙ not_is (has_index m) e)
+    subst (λ (l : List Known). EndsPlain l) (ok_is (first.0 ∷ []) ks first.2) (ap (λ (o : Option Index). is_some o) (part_index d m.name m.index first.0 first.1) ∙ not_true (has_index m) e)
 parts_end d (m ∷ n ∷ ms) ks p e =
     let first = bind_ok (known_part d m.name m.index) (λ k. known_parts d (n ∷ ms) >>= λ more. Ok (k ∷ more)) ks p in
     let rest = bind_ok (known_parts d (n ∷ ms)) (λ more. Ok (first.0 ∷ more)) ks first.2 in
     subst (λ (l : List Known). EndsPlain l) (ok_is _ _ rest.2) (ends_more first.0 rest.0 (parts_end d (n ∷ ms) rest.0 rest.1 e))
-
-pub parts_count : (d : Dictionary) (ms : List PathPart) (ks : List Known) → known_parts d ms ≡ Ok ks → length ks ≡ length ms
-parts_count d [] ks p = ap (λ (l : List Known). length l) (sym (ok_is [] ks p))
-parts_count d (m ∷ ms) ks p =
-    let first = bind_ok (known_part d m.name m.index) (λ k. known_parts d ms >>= λ more. Ok (k ∷ more)) ks p in
-    let rest = bind_ok (known_parts d ms) (λ more. Ok (first.0 ∷ more)) ks first.2 in
-    ap (λ (l : List Known). length l) (sym (ok_is _ _ rest.2)) ∙ ap suc (parts_count d ms rest.0 rest.1)
 
 erases_any : (kind : Kind) (k : Known) (ks : List Known) (value : List ℕ) → takes_value kind ≡ false → HasValue (edit_on kind k ks value)
 erases_any inserts k ks value p = absurd cc
@@ -124,14 +107,14 @@ form_ends modifies ms p h = and_middle (leads ms) (ends_in_tag ms) _ h
     and_middle true false c p = absurd cc
     and_middle false b c p = absurd cc
 form_ends erases ms p h = absurd cc
-form_ends modifies_all ms p h = and_two _ _ h
+form_ends modifies_all ms p h = and_second _ _ h
 form_ends erases_all ms p h = absurd cc
 
 pub form_one : (kind : Kind) (ms : List PathPart) → has_form kind ms ≡ true → kind ≡ modifies_all → length ms ≡ 1
 form_one inserts ms h e = absurd cc
 form_one modifies ms h e = absurd cc
 form_one erases ms h e = absurd cc
-form_one modifies_all ms h e = eqb-true (length ms) 1 (and_one _ _ h)
+form_one modifies_all ms h e = eqb-true (length ms) 1 (and_first _ _ h)
 form_one erases_all ms h e = absurd cc
 
 pub if_test : {A : Type 0} (c : Bool) (u : EditRefusal) (r : Result A EditRefusal) (y : A) → (if c then r else Err u) ≡ Ok y → c ≡ true
@@ -146,7 +129,7 @@ Fits e = HasValue e × HasShortIndexes e × (depth e ≤ 64)
 value_by_kind : (d : Dictionary) (kind : Kind) (t : Bool) (ms : List PathPart) (k : Known) (ks : List Known) (value : List ℕ) → takes_value kind ≡ t → has_form kind ms ≡ true → known_parts d ms ≡ Ok (k ∷ ks)
     → uses_sequences (takes_value kind) (k ∷ ks) ≡ true → HasValue (edit_on kind k ks value)
 value_by_kind d kind true ms k ks value t f m u =
-    edit_has kind k ks value (parts_end d ms (k ∷ ks) m (form_ends kind ms t f)) (λ x. subst (λ (y : Bool). uses_sequences y (k ∷ ks) ≡ true) t u) (λ x. parts_count d ms (k ∷ ks) m ∙ form_one kind ms f x)
+    edit_has kind k ks value (parts_end d ms (k ∷ ks) m (form_ends kind ms t f)) (λ x. subst (λ (y : Bool). uses_sequences y (k ∷ ks) ≡ true) t u) (λ x. known_count d ms (k ∷ ks) m ∙ form_one kind ms f x)
 value_by_kind d kind false ms k ks value t f m u = erases_any kind k ks value t
 
 known_fits : (d : Dictionary) (kind : Kind) (v : List ℕ) (ms : List PathPart) (ks : List Known) (e : Edit) → has_form kind ms ≡ true → known_parts d ms ≡ Ok ks → AllShortKnown ks → edit_of_known kind v ks ≡ Ok e → Fits e
@@ -174,7 +157,7 @@ abbrev pub AllFine : (List ℕ → Type 0) → List (List ℕ) → Type 0
 AllFine Fine [] = Unit {0}
 AllFine Fine (w ∷ words) = Fine w × AllFine Fine words
 
--- without those that name a dictionary, fine words are fine
+-- without those that are no edits, fine words are fine
 fine_unless : (Fine : List ℕ → Type 0) (t : Bool) (w : List ℕ) (words : List (List ℕ)) → Fine w → AllFine Fine words → AllFine Fine (if t then words else w ∷ words)
 fine_unless Fine true w words h g = g
 fine_unless Fine false w words h g = (h, g)
@@ -183,13 +166,13 @@ fine_by : (Fine : List ℕ → Type 0) (t : Bool) (two one : List (List ℕ)) �
 fine_by Fine true two one h g = h
 fine_by Fine false two one h g = g
 
-fine_without : (Fine : List ℕ → Type 0) (words : List (List ℕ)) → AllFine Fine words → AllFine Fine (without_dictionary words)
+fine_without : (Fine : List ℕ → Type 0) (words : List (List ℕ)) → AllFine Fine words → AllFine Fine (without_settings words)
 fine_without Fine [] fine = tt
-fine_without Fine (w ∷ []) fine = fine_unless Fine (is_some (dictionary_word w)) w [] fine.0 tt
+fine_without Fine (w ∷ []) fine = fine_unless Fine (is_setting w) w [] fine.0 tt
 fine_without Fine (w ∷ v ∷ words) fine =
-    fine_by Fine (takes_next (option_word w)) (w ∷ v ∷ without_dictionary words) (unless_dictionary w (without_dictionary (v ∷ words)))
+    fine_by Fine (takes_next (option_word w)) (w ∷ v ∷ without_settings words) (unless_setting w (without_settings (v ∷ words)))
     (fine.0, (fine.1.0, fine_without Fine words fine.1.1))
-    (fine_unless Fine (is_some (dictionary_word w)) w (without_dictionary (v ∷ words)) fine.0 (fine_without Fine (v ∷ words) fine.1))
+    (fine_unless Fine (is_setting w) w (without_settings (v ∷ words)) fine.0 (fine_without Fine (v ∷ words) fine.1))
 
 -- what is so of each edit that a word means is so of all that the words of a command line mean, where the words, and so their values, are fine
 module _ (d : Dictionary) (Fine : List ℕ → Type 0) (none_fine : Fine []) (cut_fine : (w : List ℕ) → Fine w → Fine (unwrap_or (cut_at (byte "=") w).after []))
@@ -248,7 +231,7 @@ module _ (d : Dictionary) (Fine : List ℕ → Type 0) (none_fine : Fine []) (cu
 
   pub fine_edits_have : (words : List (List ℕ)) (es : List Edit) → AllFine Fine words → meant_edits_in d words ≡ Ok es → AllHave P es
   fine_edits_have words es fine q =
-      let edit_words = without_dictionary words in
+      let edit_words = without_settings words in
       all_have (meant_from d 1 edit_words) es q (λ fs g. words_have 1 edit_words fs (fine_without Fine words fine) g)
 
 abbrev Any : List ℕ → Type 0

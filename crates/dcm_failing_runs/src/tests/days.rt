@@ -151,6 +151,14 @@ impl<'a> System for Twice<'a> {
         self.output()
     }
 
+    fn seize(&mut self, _path: &str) -> io::Result<bool> {
+        Ok(true)
+    }
+
+    fn holds(&mut self, _path: &str) -> bool {
+        true
+    }
+
     fn keep_mode(&mut self, _from: &str, _to: &str) -> io::Result<()> {
         Ok(())
     }
@@ -163,8 +171,9 @@ impl<'a> System for Twice<'a> {
         Ok(())
     }
 
-    fn close(&mut self, output: Std<Vec<u8>>) {
+    fn close(&mut self, output: Std<Vec<u8>>) -> io::Result<()> {
         self.written = Some(output.into_inner());
+        Ok(())
     }
 }
 

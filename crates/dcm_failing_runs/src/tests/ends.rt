@@ -21,6 +21,7 @@ const FAILED: &[u8] = b"dcmtools: output failed\n";
 /// A call at the end of an output.
 #[derive(Clone, Copy, PartialEq, Eq)]
 enum Call {
+    Close,
     KeepMode,
     Rename,
 }
@@ -56,11 +57,17 @@ struct Ending<'a> {
 }
 
 impl<'a> Ending<'a> {
-    /// The answer to a call, whose paths are to be these.
-    fn answer(&self, call: Call, paths: [&str; 2], due: [&str; 2]) -> io::Result<()> {
+    /// The answer to a call.
+    fn fails(&self, call: Call) -> io::Result<()> {
         if self.failing == Some(call) {
             return Err(io::Error::from(ErrorKind::PermissionDenied));
         }
+        Ok(())
+    }
+
+    /// The answer to a call, whose paths are to be these.
+    fn answer(&self, call: Call, paths: [&str; 2], due: [&str; 2]) -> io::Result<()> {
+        self.fails(call)?;
         if paths != due {
             return Err(io::Error::from(ErrorKind::NotFound));
         }
@@ -107,6 +114,14 @@ impl<'a> System for Ending<'a> {
         self.files.create_new(path)
     }
 
+    fn seize(&mut self, path: &str) -> io::Result<bool> {
+        self.files.seize(path)
+    }
+
+    fn holds(&mut self, path: &str) -> bool {
+        self.files.holds(path)
+    }
+
     fn keep_mode(&mut self, from: &str, to: &str) -> io::Result<()> {
         self.order.keep_mode = self.order.next();
         self.answer(Call::KeepMode, [from, to], [OUTPUT, PART])
@@ -122,8 +137,9 @@ impl<'a> System for Ending<'a> {
         self.files.remove(path)
     }
 
-    fn close(&mut self, output: Measured) {
-        self.files.close(output);
+    fn close(&mut self, output: Measured) -> io::Result<()> {
+        self.files.close(output)?;
+        self.fails(Call::Close)
     }
 }
 
@@ -136,10 +152,14 @@ struct Left {
     order: Order,
 }
 
-/// What taking identity out of a file leaves.
-fn deidentified(alloc: Global, failing: Option<Call>) -> Result<Left, AllocError> {
-    let words = split(alloc, "dcmdeid a b")?;
-    let input = Start::ExplicitLittle.bytes();
+/// What words leave of a file that is this input.
+fn obeyed(
+    alloc: Global,
+    words: &str,
+    input: &[u8],
+    failing: Option<Call>,
+) -> Result<Left, AllocError> {
+    let words = split(alloc, words)?;
     let files = [MemFile {
         name: b"a",
         number: 1,
@@ -159,6 +179,11 @@ fn deidentified(alloc: Global, failing: Option<Call>) -> Result<Left, AllocError
         is_there: files.into_written().is_some(),
         order,
     })
+}
+
+/// What taking identity out of a file leaves.
+fn deidentified(alloc: Global, failing: Option<Call>) -> Result<Left, AllocError> {
+    obeyed(alloc, "dcmdeid a b", Start::ExplicitLittle.bytes(), failing)
 }
 
 /// Expects that a run failed by its output, which is gone, after these calls.
@@ -197,5 +222,22 @@ fn parts_that_cannot_be_named_are_removed(rt: HostRuntime) -> Result<(), Fail> {
         rename: 2,
         remove: 3,
     };
-    expect_failure(rt.alloc(), Call::Rename, not_moved)
+    expect_failure(rt.alloc(), Call::Rename, not_moved)?;
+    let not_closed = Order {
+        keep_mode: 0,
+        rename: 0,
+        remove: 1,
+    };
+    expect_failure(rt.alloc(), Call::Close, not_closed)
+}
+
+#[test]
+fn bytes_that_are_lost_at_the_closing_are_told(rt: HostRuntime) -> Result<(), Fail> {
+    for input in [Start::ExplicitLittle.bytes(), b"no".as_slice()] {
+        let left = obeyed(rt.alloc(), "dcmconv a b", input, Some(Call::Close))?;
+        holds("a closing fails", "status", left.status == 4)?;
+        holds("a closing fails", "line", left.told.as_slice() == FAILED)?;
+        holds("a closing fails", "output", left.is_there)?;
+    }
+    Ok(())
 }

@@ -6,6 +6,7 @@ mod dictionaries;
 mod dumps;
 mod identities;
 mod modifications;
+mod named_elements;
 mod texts;
 
 use super::cases::{Case, case_of};

@@ -70,11 +70,14 @@ impl<'a> DeviceOut for Counted<'a> {
     }
 }
 
-/// A system with one answer for each path that is read, and one for each that is written.
+/// A system with one answer for each path that is read, one for each that is looked at, if something is there, and one
+/// for each that is written. It counts the outputs that are opened.
 #[derive(Drop)]
 struct Answers<'a> {
     input: Answer,
+    there: Option<Answer>,
     output: Answer,
+    outputs: &'a Cell<usize>,
     calls: &'a Cell<usize>,
 }
 
@@ -91,6 +94,11 @@ impl<'a> Answers<'a> {
             Answer::Opens(kind) => Ok(self.opened(kind)),
             Answer::Fails(kind) => Err(io::Error::from(kind)),
         }
+    }
+
+    fn open_output(&self) -> io::Result<Opened<Counted<'a>>> {
+        self.outputs.set(self.outputs.get().saturating_add(1));
+        self.answer(self.output)
     }
 }
 
@@ -114,21 +122,33 @@ impl<'a> System for Answers<'a> {
     }
 
     fn stdout(&mut self) -> io::Result<Opened<Counted<'a>>> {
-        self.answer(self.output)
+        self.open_output()
     }
 
     fn create(&mut self, _path: &str) -> io::Result<Opened<Counted<'a>>> {
-        self.answer(self.output)
+        self.open_output()
     }
 
     fn release(&mut self, _input: Counted<'a>) {}
 
     fn kind_at(&mut self, _path: &str) -> io::Result<Option<FileKind>> {
-        Ok(None)
+        match self.there {
+            None => Ok(None),
+            Some(Answer::Opens(kind)) => Ok(Some(kind)),
+            Some(Answer::Fails(kind)) => Err(io::Error::from(kind)),
+        }
     }
 
     fn create_new(&mut self, _path: &str) -> io::Result<Opened<Counted<'a>>> {
-        self.answer(self.output)
+        self.open_output()
+    }
+
+    fn seize(&mut self, _path: &str) -> io::Result<bool> {
+        Ok(true)
+    }
+
+    fn holds(&mut self, _path: &str) -> bool {
+        true
     }
 
     fn keep_mode(&mut self, _from: &str, _to: &str) -> io::Result<()> {
@@ -143,31 +163,48 @@ impl<'a> System for Answers<'a> {
         Ok(())
     }
 
-    fn close(&mut self, _output: Counted<'a>) {}
+    fn close(&mut self, _output: Counted<'a>) -> io::Result<()> {
+        Ok(())
+    }
 }
 
-/// What words leave: the status, standard error, and whether there were calls on devices.
+/// What words leave: the status, standard error, whether outputs were opened, and whether there were calls on devices.
 #[derive(Drop)]
 struct Left {
     words: &'static str,
     status: u8,
     told: Vec<u8>,
+    has_output: bool,
     has_calls: bool,
 }
 
-/// What words leave over such a system.
+/// What words leave over such a system, where nothing is seen at the path of an output.
 fn obeyed(
     alloc: Global,
     line: &'static str,
     input: Answer,
     output: Answer,
 ) -> Result<Left, AllocError> {
+    obeyed_over(alloc, line, input, None, output)
+}
+
+/// What words leave over such a system.
+fn obeyed_over(
+    alloc: Global,
+    line: &'static str,
+    input: Answer,
+    there: Option<Answer>,
+    output: Answer,
+) -> Result<Left, AllocError> {
     let words = split(alloc, line)?;
+    let outputs = Cell::new(0usize);
     let calls = Cell::new(0usize);
     let mut errors = memory_out(alloc, 200)?;
     let mut system = Answers {
         input,
+        there,
         output,
+        outputs: &outputs,
         calls: &calls,
     };
     let status = obey(&mut system, alloc, words.as_slice(), &mut errors);
@@ -175,6 +212,7 @@ fn obeyed(
         words: line,
         status,
         told: bytes_in(alloc, errors.device())?,
+        has_output: outputs.get() > 0,
         has_calls: calls.get() > 0,
     })
 }
@@ -191,6 +229,8 @@ const NO_INPUT: &[u8] = b"dcmtools: input cannot be opened\n";
 const NO_OUTPUT: &[u8] = b"dcmtools: output cannot be opened\n";
 
 const SAME: &[u8] = b"dcmtools: output is the input\n";
+
+const THERE: &[u8] = b"dcmtools: output is there already\n";
 
 const PART: &[u8] = b"dcmtools: output part is there: another run is at work, or was cut off\n";
 
@@ -271,7 +311,14 @@ fn parts_that_are_there(rt: HostRuntime) -> Result<(), Fail> {
 
 #[test]
 fn help_of_no_tool(rt: HostRuntime) -> Result<(), Fail> {
-    for words in ["help foo", "--help a", "help help", "foo help"] {
+    for words in [
+        "help foo",
+        "--help a",
+        "-h a",
+        "help help",
+        "foo -h",
+        "foo help",
+    ] {
         let left = obeyed(rt.alloc(), words, FILE, PIPE)?;
         expect_left(&left, 1, NO_TOOL, false)?;
     }
@@ -280,15 +327,20 @@ fn help_of_no_tool(rt: HostRuntime) -> Result<(), Fail> {
 
 /// Words, kinds of the input and of the output, and the line where they are not used together. With calls on the
 /// devices the first one fails.
-fn clashes() -> [(&'static str, Answer, Answer, &'static [u8]); 8] {
+fn clashes() -> [(&'static str, Answer, Answer, &'static [u8]); 13] {
     let unknown = Answer::Opens(FileKind::Unknown);
     [
         ("dcmconv a b", FILE, FILE, SAME),
         ("dcmconv a -", FILE, FILE, SAME),
         ("dcmdump a", FILE, FILE, SAME),
-        ("dcmconv a b", FILE, regular(1, 3, 3), READ),
-        ("dcmconv a b", FILE, regular(2, 2, 3), READ),
+        ("dcmconv +ow a b", FILE, FILE, SAME),
+        ("dcmconv a b", FILE, regular(1, 3, 3), THERE),
+        ("dcmconv a b", FILE, regular(1, 3, 0), READ),
+        ("dcmconv a -", FILE, regular(1, 3, 3), READ),
+        ("dcmconv +ow a b", FILE, regular(1, 3, 3), READ),
+        ("dcmconv +ow a b", FILE, regular(2, 2, 3), READ),
         ("dcmconv a b", unknown, FILE, NO_OUTPUT),
+        ("dcmconv +ow a b", unknown, FILE, NO_OUTPUT),
         ("dcmconv a b", unknown, regular(1, 2, 0), READ),
         ("dcmconv a b", FILE, unknown, READ),
     ]
@@ -299,6 +351,64 @@ fn devices_that_are_one_file(rt: HostRuntime) -> Result<(), Fail> {
     for (words, input, output, line) in clashes() {
         let left = obeyed(rt.alloc(), words, input, output)?;
         expect_left(&left, 4, line, line == READ)?;
+    }
+    Ok(())
+}
+
+/// Words, what is seen at the path of the output, and the line where nothing is opened there.
+fn seen() -> [(&'static str, Answer, &'static [u8]); 16] {
+    let other = regular(1, 3, 3);
+    let folder = Answer::Opens(FileKind::Directory);
+    let denied = Answer::Fails(ErrorKind::PermissionDenied);
+    let full = Answer::Fails(ErrorKind::OutOfMemory);
+    [
+        ("dcmconv a b", FILE, SAME),
+        ("dcmconv +ow a b", FILE, SAME),
+        ("dcmdeid a b", FILE, SAME),
+        ("dcmdeid +ow a b", FILE, SAME),
+        ("dcmconv a b", other, THERE),
+        ("dump2dcm a b", other, THERE),
+        ("dcmodify -ep a b", other, THERE),
+        ("dcmdeid a b", other, THERE),
+        ("dcmconv a b", denied, NO_OUTPUT),
+        ("dcmconv +ow a b", denied, NO_OUTPUT),
+        ("dcmdeid +ow a b", denied, NO_OUTPUT),
+        ("dcmconv a b", full, NO_MEMORY),
+        ("dcmdeid a b", full, NO_MEMORY),
+        ("dcmdeid a b", PIPE, NO_OUTPUT),
+        ("dcmdeid +ow a b", PIPE, NO_OUTPUT),
+        ("dcmdeid a b", folder, NO_OUTPUT),
+    ]
+}
+
+#[test]
+fn outputs_that_are_seen(rt: HostRuntime) -> Result<(), Fail> {
+    for (words, there, line) in seen() {
+        let left = obeyed_over(rt.alloc(), words, FILE, Some(there), PIPE)?;
+        let status = if line == NO_MEMORY { 5 } else { 4 };
+        expect_left(&left, status, line, false)?;
+        holds(words, "no output", !left.has_output)?;
+    }
+    Ok(())
+}
+
+/// Words, and what is seen at the path of an output that is opened all the same.
+fn opened_over() -> [(&'static str, Answer); 5] {
+    [
+        ("dcmconv +ow a b", regular(1, 3, 3)),
+        ("dcmconv a b", regular(1, 3, 0)),
+        ("dcmconv a b", PIPE),
+        ("dcmdeid +ow a b", regular(1, 3, 3)),
+        ("dcmdeid a b", regular(1, 3, 0)),
+    ]
+}
+
+#[test]
+fn outputs_that_are_opened(rt: HostRuntime) -> Result<(), Fail> {
+    for (words, there) in opened_over() {
+        let left = obeyed_over(rt.alloc(), words, FILE, Some(there), PIPE)?;
+        expect_left(&left, 4, READ, true)?;
+        holds(words, "output", left.has_output)?;
     }
     Ok(())
 }

@@ -2,6 +2,8 @@
 use Rattle.std.proofs.Common.{◌≡◌, ◌∙◌, ◌⊎◌, inl, inr, ap, sym, subst, ℕ, List, ◌++◌, length, Bool, true, false, ◌↔◌, Option, Some, None}
 use Rattle.std.specs.Prelude.{fold}
 use Rattle.std.proofs.lemmas.List.Sums.{fold-append}
+use Rattle.dcm_lemmas.proofs.Options.{none_or_some}
+use Rattle.dcm_lemmas.proofs.Truth.{true_false}
 use Rattle.dcm_base.specs.declared.fault.Fault.{Fault}
 use Rattle.dcm_base.specs.declared.fault.Stop.{Stop}
 use Rattle.dcm_base.specs.File.MetaReads.{MetaAnswer, MetaReads, begins, refused, is_undecided}
@@ -26,14 +28,8 @@ known p answer reads =
     let t = told _ p (described p) in
     subst (Known (fold meta_step at_start p) p) (one_meta p t.answer answer t.reads reads) (record { said = t.said; going = t.going })
 
-both_ends : (end : Option MetaEnd) (e : MetaEnd) → end ≡ None → end ≡ Some e → ⊥
-both_ends end e none some = let no : None ≡ Some e = sym none ∙ some in cc
-
-both_tests : (b : Bool) → b ≡ true → b ≡ false → ⊥
-both_tests b t f = let no : true ≡ false = sym t ∙ f in cc
-
 over_where : (undecided : Bool) (r : Reading) → GoesOn undecided r.end → IsOver r ↔ (undecided ≡ false)
-over_where undecided r (inl x) = ((λ o. absurd (both_ends r.end o.0 x.1 o.1)), (λ f. absurd (both_tests undecided x.0 f)))
+over_where undecided r (inl x) = ((λ o. absurd (none_or_some r.end o.0 x.1 o.1)), (λ f. absurd (true_false undecided x.0 f)))
 over_where undecided r (inr x) = ((λ o. x.0), (λ f. (x.1, x.2)))
 
 same_stops : (stop other : Stop) → Some (Refused stop) ≡ Some (Refused other) → stop ≡ other
@@ -53,8 +49,8 @@ refusing r answer fault offset said is = subst (Says r) is said
 
 refuses_where : (undecided : Bool) (r : Reading) (answer : MetaAnswer) (fault : Fault) (offset : ℕ) → Says (meta_finished r) answer → GoesOn undecided r.end → Refuses r fault offset ↔ ((answer ≡ refused fault offset) × (undecided ≡ false))
 refuses_where undecided r answer fault offset said (inl x) = (
-  (λ h. absurd (both_ends r.end (Refused (record { fault = fault; at = offset })) x.1 h)),
-  (λ y. absurd (both_tests undecided x.0 y.1)),
+  (λ h. absurd (none_or_some r.end (Refused (record { fault = fault; at = offset })) x.1 h)),
+  (λ y. absurd (true_false undecided x.0 y.1)),
 )
 refuses_where undecided r answer fault offset said (inr x) =
     let here : Says r answer = subst (λ (q : Reading). Says q answer) (ap (finished_from r) x.2) said in (

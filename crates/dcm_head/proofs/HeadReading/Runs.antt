@@ -1,10 +1,11 @@
 -- Bytes that lead to nothing by themselves.
-use Rattle.std.proofs.Common.{◌≡◌, ◌∙◌, inl, inr, ◌+◌, ◌-◌, ◌<◌, ◌≤◌, List, [], ◌∷◌, ◌++◌, length, take, drop, ℕ, Bool, false, cond, nat_eq, Option, None, refl, ap, sym, subst, arith, append_assoc, length-append, length-take, Result, Ok, Err}
+use Rattle.std.proofs.Common.{◌≡◌, ◌∙◌, inl, inr, ◌+◌, ◌-◌, ◌<◌, ◌≤◌, List, [], ◌∷◌, ◌++◌, length, take, drop, ℕ, Bool, false, cond, nat_eq, Option, None, refl, ap, sym, subst, arith, append_assoc, length-append, length-take, Result}
 use Rattle.std.specs.Prelude.{fold, is_some, not, IsOk, OnOk}
 use Rattle.std.proofs.lemmas.Bool.{lt-ltb, le-ltb, ne_eqb}
 use Rattle.std.proofs.lemmas.Bool.Decides.{leb_tells}
 use Rattle.std.proofs.lemmas.List.{append-nil, drop_at, take-append-drop}
 use Rattle.std.proofs.lemmas.List.Sums.{fold-append}
+use Rattle.dcm_lemmas.proofs.Options.{went_well}
 use Rattle.dcm_base.specs.declared.tag.Tag.{Tag}
 use Rattle.dcm_base.specs.declared.vr.Vr.{Vr}
 use Rattle.dcm_base.specs.declared.fault.Fault.TheVariants.{NoPrefix}
@@ -133,10 +134,6 @@ nothing_to_come r s (byte ∷ rest) h all = absurd (omega arith)
 
 pub over_before : (r s : Reading) (rest : List ℕ) (end : Option MetaEnd) (none : Bool) → end ≡ r.end → is_some end ≡ not none → none ≡ false → fold meta_step r rest ≡ s → r ≡ s
 over_before r s rest end none h is over all = sym (stays_some r end rest h (is ∙ ap not over)) ∙ all
-
-went_well : {T E P : Type 0} (result : Result T E) → OnOk result P → IsOk result → P
-went_well (Ok value) h ok = h
-went_well (Err error) h ok = absurd (cc)
 
 -- the bytes fit, and are held
 pub held_all : {T E : Type 0} (r : Reading) (run new : List ℕ) (result : Result T E) → r.end ≡ None → Idle r run → (length r.bytes + length run ≤ 16528 → IsOk result) → OnOk result (new ≡ r.bytes ++ run) → new ≡ r.bytes ++ run

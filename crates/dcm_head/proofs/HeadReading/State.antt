@@ -5,6 +5,8 @@ use Rattle.std.proofs.lemmas.Bool.{lt-ltb, le-ltb, ne_eqb}
 use Rattle.std.proofs.lemmas.Bool.Decides.{leb_tells, not_from_Decides}
 use Rattle.std.proofs.lemmas.Slice.Eq.{bytes_eq-Decides}
 use Rattle.std.proofs.lemmas.List.{drop_at, take-append-drop, take-append-le, drop-append-le, drop-drop, length-take, length-take-le, take_all, append-nil}
+use Rattle.dcm_lemmas.proofs.Lists.{bytes_same}
+use Rattle.dcm_lemmas.proofs.Truth.{and_parts, not_true}
 use Rattle.dcm_base.specs.declared.tag.Tag.{Tag}
 use Rattle.dcm_base.specs.declared.vr.Vr.{Vr}
 use Rattle.dcm_base.specs.declared.fault.Fault.TheVariants.{EndsEarly, NoPrefix}
@@ -96,9 +98,6 @@ pub data Described (r : Reading) (p : List ℕ) : Type 0 where
   no_file : NoFile r p → Described r p
   over : Over r p → Described r p
 
-bytes_same : (xs ys : List ℕ) → bytes_eq xs ys ≡ true → xs ≡ ys
-bytes_same xs ys h = (bytes_eq-Decides xs ys).0 h
-
 bytes_other : (xs ys : List ℕ) → bytes_eq xs ys ≡ false → xs ≡ ys → ⊥
 bytes_other xs ys h = not_from_Decides (bytes_eq xs ys) (bytes_eq-Decides xs ys) h
 
@@ -138,14 +137,6 @@ pads_short value =
     let a = ap length (pads_front value) in
     let b = length-take (length (without_pads value)) value in
     omega arith
-
-both_true : (a b : Bool) → (a && b) ≡ true → (a ≡ true) × (b ≡ true)
-both_true true b h = (refl, h)
-both_true false b h = absurd (let no : false ≡ true = h in cc)
-
-not_true : (a : Bool) → not a ≡ true → a ≡ false
-not_true true h = absurd (let no : false ≡ true = h in cc)
-not_true false h = refl
 
 parts_more : (preamble group rest : List ℕ) (byte : ℕ) → (preamble ++ (PREFIX ++ (group ++ rest))) ++ byte ∷ [] ≡ preamble ++ (PREFIX ++ (group ++ (rest ++ byte ∷ [])))
 parts_more preamble group rest byte =
@@ -402,7 +393,7 @@ uid_cases r p byte w tag vr head size all {D} make =
     let go : (b : Bool) → is_first_syntax r.uid_at tag ≡ b → D =
     λ b. elim b as (λ (b : Bool). is_first_syntax r.uid_at tag ≡ b → D) [
       | true ↦ λ h.
-          let t = both_true (nat_eq r.uid_at 0) (is_tag 2 0x10 tag) h in
+          let t = and_parts (nat_eq r.uid_at 0) (is_tag 2 0x10 tag) h in
           let none : has_syntax w.elements ≡ false = not_true (has_syntax w.elements) (sym w.uid.found ∙ t.0) in
           make first (ap (λ (x : Bool). cond x first other) h) refl refl w.going
           (here first w.elements tag vr value (r.place + head) none t.1 refl (omega arith) (ap (λ (x : List ℕ). length (without_pads x)) whole) there (omega arith))

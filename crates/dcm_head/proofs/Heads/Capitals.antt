@@ -3,6 +3,7 @@ use Rattle.std.proofs.Common.{◌≡◌, ◌∙◌, ap, sym, refl, ℕ, List, []
 use Rattle.std.specs.Prelude.{◌&&◌, find, option_map, bytes_eq, unwrap_or}
 use Rattle.std.specs.List.{list_all}
 use Rattle.std.proofs.lemmas.Slice.Eq.{bytes_eq-Decides}
+use Rattle.dcm_lemmas.proofs.Truth.{and_first, and_second}
 use Rattle.dcm_base.specs.declared.vr.Vr.{Vr}
 use Rattle.dcm_base.specs.declared.vr.Vr.TheVariants.{UN}
 use Rattle.dcm_base.specs.declared.vr.TheConstants.{LETTERS}
@@ -18,14 +19,6 @@ are_capitals _ = false
 abbrev has_capitals : Row → Bool
 has_capitals r = are_capitals r.1
 
-first_of : (a b : Bool) → (a && b) ≡ true → a ≡ true
-first_of true b p = refl
-first_of false b p = cc
-
-rest_of : (a b : Bool) → (a && b) ≡ true → b ≡ true
-rest_of true b p = p
-rest_of false b p = cc
-
 here_or_there : (t : Bool) (l : List ℕ) (r : Row) (there : Option Row) (vr : Vr) → (t ≡ true → are_capitals l ≡ true) → (Some vr ≡ option_map (λ (x : Row). x.0) there → are_capitals l ≡ true)
     → Some vr ≡ option_map (λ (x : Row). x.0) (cond t (Some r) there) → are_capitals l ≡ true
 here_or_there true l r there vr here more e = here refl
@@ -35,7 +28,7 @@ found : (l : List ℕ) (rows : List Row) (vr : Vr) → list_all has_capitals row
 found l [] vr all e = absurd (cc)
 found l (r ∷ rows) vr all e =
     here_or_there (bytes_eq r.1 l) l r (find (λ (x : Row). bytes_eq x.1 l) rows) vr
-    (λ t. ap are_capitals (sym ((bytes_eq-Decides r.1 l).0 t)) ∙ first_of _ _ all) (found l rows vr (rest_of _ _ all)) e
+    (λ t. ap are_capitals (sym ((bytes_eq-Decides r.1 l).0 t)) ∙ and_first _ _ all) (found l rows vr (and_second _ _ all)) e
 
 all_capitals : list_all has_capitals LETTERS ≡ true
 all_capitals = refl

@@ -1,6 +1,5 @@
 -- Heads of elements in an explicit syntax.
-use Rattle.std.proofs.Common.{◌≡◌, true, ℕ, ◌≤◌, List, length, get_or, drop, Option, Some, None, Bool, cond, refl, sym, ap, ◌∙◌, subst, length-drop, take, ◌-◌}
-use Rattle.std.proofs.Math.Seq.{take-length}
+use Rattle.std.proofs.Common.{◌≡◌, true, ℕ, ◌≤◌, List, length, get_or, drop, Option, Some, None, Bool, cond, refl, sym, ap, ◌∙◌, subst, ◌-◌}
 use Rattle.dcm_base.specs.declared.tag.Tag.{Tag}
 use Rattle.dcm_base.specs.declared.vr.Vr.{Vr}
 use Rattle.dcm_base.specs.declared.syntax.Syntax.{Syntax}
@@ -41,9 +40,6 @@ head_is s tag vr declared long b h e t v le d =
       length_is = d ∙ sym (length_is s vr long b h e);
       after_is = ap (λ (n : ℕ). drop n b) (sym (size_is s vr long h e));
     }
-
-pub tail_is : (n : ℕ) (b : List ℕ) → take (length b - n) (drop n b) ≡ drop n b
-tail_is n b = ap (λ (k : ℕ). take k (drop n b)) (sym (length-drop n b)) ∙ take-length (drop n b)
 
 pub none_from : (o : Option Vr) → ((x : Vr) → o ≡ Some x → ⊥) → o ≡ None
 none_from None h = refl

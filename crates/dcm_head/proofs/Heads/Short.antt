@@ -14,10 +14,10 @@ use Rattle.dcm_head.specs.HeadRead.{is_delimiter, tag_read, BeginsShort}
 use Rattle.dcm_head.proofs.Heads.Explicit.{vr_is, size_is, length_is}
 use Rattle.dcm_head.proofs.Heads.Reads.{by_tests, element_whole}
 
-no_item : (tag : Tag) → (tag.group == 0xFFFE) ≡ false → is_item tag ≡ false
+pub no_item : (tag : Tag) → (tag.group == 0xFFFE) ≡ false → is_item tag ≡ false
 no_item tag g = ap (λ (x : Bool). x && (tag.element == 0xE000)) g
 
-no_delimiter : (tag : Tag) → (tag.group == 0xFFFE) ≡ false → is_delimiter tag ≡ false
+pub no_delimiter : (tag : Tag) → (tag.group == 0xFFFE) ≡ false → is_delimiter tag ≡ false
 no_delimiter tag g = ap (λ (x : Bool). (x && (tag.element == 0xE00D)) || (x && (tag.element == 0xE0DD))) g
 
 -- what is read where the groups are others, and the letters are those of a short representation

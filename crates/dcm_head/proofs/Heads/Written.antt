@@ -3,8 +3,10 @@ use Rattle.std.proofs.Common.{◌≡◌, ℕ, ◌+◌, ◌≤◌, ◌<◌, List,
 use Rattle.std.specs.Bool.{MatchBool}
 use Rattle.std.specs.Int.{w16, w32}
 use Rattle.std.proofs.lemmas.Bool.{ne_eqb}
-use Rattle.std.proofs.lemmas.List.{append-nil, drop_all}
+use Rattle.std.proofs.lemmas.List.{append-nil}
 use Rattle.byteorder.specs.Numbers.{big_number-reads_back, little_number-reads_back}
+use Rattle.dcm_lemmas.proofs.Lists.{nothing_behind}
+use Rattle.dcm_lemmas.proofs.Truth.{and_false}
 use Rattle.dcm_base.specs.declared.tag.Tag.{Tag}
 use Rattle.dcm_base.specs.declared.vr.Vr.{Vr}
 use Rattle.dcm_base.specs.declared.vr.Vr.TheVariants.{AE, UN}
@@ -97,9 +99,6 @@ plain_size s t l = tag_size s t (number_bytes s w32 (length_number l)) ∙ ap (�
 plain_told : (s : Syntax) (t : Tag) (l : Length) → FitsLong l → l ≡ long_length (number s 4 (drop 4 (plain_head s t l)))
 plain_told s t l h = long_told s l h ∙ ap (λ (x : List ℕ). long_length (number s 4 x)) (sym (behind_tag s t (number_bytes s w32 (length_number l))))
 
-nothing_behind : (n : ℕ) (bytes : List ℕ) → length bytes ≡ n → [] ≡ drop n bytes
-nothing_behind n bytes e = sym (drop_all n bytes (omega arith))
-
 eight : (bytes : List ℕ) → length bytes ≡ 8 → 8 ≤ length bytes
 eight bytes e = omega arith
 
@@ -170,10 +169,6 @@ implicit_spelled d t vr l h v fits =
     }
 
 -- ---- any head
-
-and_false : (b : Bool) → (b && false) ≡ false
-and_false true = refl
-and_false false = refl
 
 pub element_spelled : (s : Syntax) (t : Tag) (vr : Vr) (l : Length) → IsTag t → MatchBool (is_explicit s) (Unit {0}) (vr ≡ vr_in (dictionary_of s) t)
     → ((is_explicit s && not (is_long vr)) ≡ true → FitsShort l) → ((is_explicit s && not (is_long vr)) ≡ false → FitsLong l) → PlainHead s t vr l (head s t vr l) []

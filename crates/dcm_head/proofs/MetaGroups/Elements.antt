@@ -76,7 +76,7 @@ vr_tells taken rest (Some vr) t v head size h =
     let a = second (nat_lt (length rest) (head_size Little vr)) too_few _ (an_element t v head size) h (λ e. cc) in
     (vr, refl, head_tells taken (length rest) (tag_at Little rest) vr (length_at Little vr rest) t v head size a.1)
 
-head_not_end : (taken left : ℕ) (tag : Tag) (vr : Vr) (declared : Length) → group_place_of_head taken left tag vr declared ≡ the_end → ⊥
+pub head_not_end : (taken left : ℕ) (tag : Tag) (vr : Vr) (declared : Length) → group_place_of_head taken left tag vr declared ≡ the_end → ⊥
 head_not_end taken left tag vr Undefined h = let no : a_fault BadMeta ≡ the_end = h in cc
 head_not_end taken left tag vr (Known n) h =
     let a = second (is_sequence vr) (a_fault BadMeta) _ the_end h (λ e. cc) in
@@ -84,7 +84,7 @@ head_not_end taken left tag vr (Known n) h =
     let d = second (nat_lt left (head_size Little vr + n)) too_few _ the_end b.1 (λ e. cc) in
     let no : an_element tag vr (head_size Little vr) n ≡ the_end = d.1 in cc
 
-vr_not_end : (taken : ℕ) (rest : List ℕ) (found : Option Vr) → group_place_of_vr taken rest found ≡ the_end → ⊥
+pub vr_not_end : (taken : ℕ) (rest : List ℕ) (found : Option Vr) → group_place_of_vr taken rest found ≡ the_end → ⊥
 vr_not_end taken rest None h = let no : a_fault BadMeta ≡ the_end = h in cc
 vr_not_end taken rest (Some vr) h =
     let a = second (nat_lt (length rest) (head_size Little vr)) too_few _ the_end h (λ e. cc) in

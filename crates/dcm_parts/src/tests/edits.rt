@@ -1,6 +1,6 @@
 use super::{holds, words_of};
 use dcm_base::{Dictionary, EditRefusal, Tag, Vr};
-use dcm_edits::{Action, Edit, EditFault, Edits, Index, dictionary_said};
+use dcm_edits::{Action, Edit, EditFault, Edits, Index, settings_of};
 use std::test::Fail;
 
 /// The edits that the words of a line mean by a dictionary, or the refusal.
@@ -133,7 +133,31 @@ fn names_a_dictionary(rt: HostRuntime) -> Result<(), Fail> {
         ("-e -e +dict", Dictionary::Standard),
     ] {
         let words = words_of(rt, line)?;
-        holds(&rt, line, dictionary_said(words.as_slice()) == dictionary);
+        holds(
+            &rt,
+            line,
+            settings_of(words.as_slice()).dictionary == dictionary,
+        );
+    }
+    Ok(())
+}
+
+#[test]
+fn overwrites_where_that_is_said(rt: HostRuntime) -> Result<(), Fail> {
+    for (line, overwrites) in [
+        ("-ep", false),
+        ("+ow", true),
+        ("+ow +ow", true),
+        ("-ep +ow -dict", true),
+        ("-e +ow", false),
+        ("-e Rows +ow", true),
+    ] {
+        let words = words_of(rt, line)?;
+        holds(
+            &rt,
+            line,
+            settings_of(words.as_slice()).overwrites == overwrites,
+        );
     }
     Ok(())
 }

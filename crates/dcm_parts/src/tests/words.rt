@@ -64,6 +64,7 @@ fn said_of(rt: HostRuntime, line: &'static str) -> Result<Result<Said, Usage>, F
                 mode,
                 texts,
                 bare,
+                ..
             },
         ) => Ok(Ok(Said {
             dictionary,

@@ -2,6 +2,7 @@
 use Rattle.std.proofs.Common.{◌≡◌, ◌≢◌, ◌∙◌, ap, sym, refl, subst, ℕ, suc, ◌*◌, ◌≤◌, List, [], ◌∷◌, ◌++◌, length, Bool, true, false, arith, Option, Some, None, if◌then◌else◌}
 use Rattle.std.specs.Prelude.{fold, map, ◌&&◌}
 use Rattle.std.proofs.lemmas.List.Sums.{fold-append}
+use Rattle.dcm_lemmas.proofs.Truth.{and_false}
 use Rattle.dcm_base.specs.declared.form.Form.TheVariants.{Value as a_value, Sequence as a_sequence, FragmentList as a_fragment_list}
 use Rattle.dcm_base.specs.declared.length.Length.{Length}
 use Rattle.dcm_base.specs.declared.length.Length.TheVariants.{Known, Undefined}
@@ -33,7 +34,7 @@ use Rattle.dcm_deid.specs.Uids.{unpadded}
 use Rattle.dcm_deid.proofs.PatientSteps.{bytes_held}
 use Rattle.dcm_cli.specs.First.{patient_of}
 use Rattle.dcm_run_laws.specs.FirstLaws.{patient_in}
-use Rattle.dcm_run_laws.proofs.Patient.Atoms.{NotOpen, at, bytes_pass, fragments_pass, head_told, into, is_nobody, is_not_yet, is_opened, items_pass, named, no_value, not_held, opened_is, same_with, trees_pass, value_names}
+use Rattle.dcm_run_laws.proofs.Patient.Atoms.{NotOpen, at, bytes_pass, fragments_pass, head_told, into, is_nobody, is_not_yet, is_opened, items_pass, named, not_held, opened_is, same_with, trees_pass, value_names}
 
 -- ---- what is open changes nothing
 
@@ -218,7 +219,7 @@ module _ (o : OpenTree) (b : Bool) (after : List Atom) (shows : ShowsOpen o (end
       let more : StaysShallow 0 w.2 = stays_on 1 closes_sequence w.2 (stays_items 1 items w.1 (closes_sequence ∷ w.2) w.5 inner) in
       nobody_named rest held w.2 _ _ w.6 more
       (ap (fold patient_next (at 0 NotYet h)) w.4
-      ∙ head_told h tag vr declared w.0 a_sequence Nobody w.1 w.3 (is_nobody tag a_sequence e (no_value (same_tag tag PATIENT_ID)))
+      ∙ head_told h tag vr declared w.0 a_sequence Nobody w.1 w.3 (is_nobody tag a_sequence e (and_false (same_tag tag PATIENT_ID)))
       ∙ items_pass Nobody held tt items 0 0 w.1 (closes_sequence ∷ w.2) w.5 inner (omega arith))
 
   list_named : (tag : Tag) (vr : Vr) (values : List (List ℕ)) (rest : Trees) → MoreNamed rest → (less : Bool) → below tag PATIENT_ID ≡ less → (h : Held) (atoms : List Atom) → ShowTrees (fragments tag vr values rest) atoms after → StaysShallow 0 atoms
@@ -239,7 +240,7 @@ module _ (o : OpenTree) (b : Bool) (after : List Atom) (shows : ShowsOpen o (end
       let more : StaysShallow 0 w.1 = stays_on 1 closes_sequence w.1 (stays_fragments 1 values (closes_sequence ∷ w.1) inner) in
       nobody_named rest held w.1 _ _ w.4 more
       (ap (fold patient_next (at 0 NotYet h)) w.3
-      ∙ head_told h tag vr Undefined w.0 a_fragment_list Nobody (fragments_then values (closes_sequence ∷ w.1)) w.2 (is_nobody tag a_fragment_list e (no_value (same_tag tag PATIENT_ID)))
+      ∙ head_told h tag vr Undefined w.0 a_fragment_list Nobody (fragments_then values (closes_sequence ∷ w.1)) w.2 (is_nobody tag a_fragment_list e (and_false (same_tag tag PATIENT_ID)))
       ∙ fragments_pass Nobody held tt 1 values (closes_sequence ∷ w.1) (omega arith))
 
   pub named_by_atoms : (x : Trees) (h : Held) (atoms : List Atom) → ShowTrees x atoms after → StaysShallow 0 atoms → Names (fold patient_next (at 0 NotYet h) atoms) (named (unpadded PATIENT_ID x))

@@ -5,6 +5,7 @@ use Rattle.std.specs.Option.{option_map_or}
 use Rattle.std.proofs.lemmas.Bool.{leb-true}
 use Rattle.std.proofs.lemmas.List.{length-take, length-drop, take-append-drop}
 use Rattle.std.proofs.lemmas.List.Sums.{fold-append}
+use Rattle.dcm_lemmas.proofs.Truth.{and_false}
 use Rattle.dcm_base.specs.declared.form.Form.{Form}
 use Rattle.dcm_base.specs.declared.form.Form.TheVariants.{Value as a_value, Sequence as a_sequence, FragmentList as a_fragment_list}
 use Rattle.dcm_base.specs.declared.length.Length.{Length}
@@ -195,10 +196,6 @@ pub is_nobody : (tag : Tag) (f : Form) → below tag PATIENT_ID ≡ false → na
 is_nobody tag f e other =
     ap (λ (c : Bool). if c then NotYet else if names_patient tag f then Opened else Nobody) e ∙ ap (λ (c : Bool). if c then Opened else Nobody) other
 
-pub no_value : (c : Bool) → (c && false) ≡ false
-no_value true = refl
-no_value false = refl
-
 pub same_with : (c : Bool) → c ≡ false → (c && true) ≡ false
 same_with true e = absurd (cc)
 same_with false e = refl
@@ -272,7 +269,7 @@ sequence_told tag vr declared items rest go false e h atoms w k a =
     let more : StaysShallow 0 w.2 = stays_on 1 closes_sequence w.2 (stays_items 1 items w.1 (closes_sequence ∷ w.2) w.5 inner) in
     let steps : fold patient_next (at 0 NotYet h) atoms ≡ fold patient_next (at 0 Nobody held) w.2 =
     ap (fold patient_next (at 0 NotYet h)) w.4
-    ∙ head_told h tag vr declared w.0 a_sequence Nobody w.1 w.3 (is_nobody tag a_sequence e (no_value (same_tag tag PATIENT_ID)))
+    ∙ head_told h tag vr declared w.0 a_sequence Nobody w.1 w.3 (is_nobody tag a_sequence e (and_false (same_tag tag PATIENT_ID)))
     ∙ items_pass Nobody held tt items 0 0 w.1 (closes_sequence ∷ w.2) w.5 inner (omega arith)
     in
     nobody_told tag rest held w.2 w.6 more a e (fold patient_next (at 0 NotYet h) atoms) steps
@@ -296,7 +293,7 @@ list_told tag vr values rest go false e h atoms w k a =
     let more : StaysShallow 0 w.1 = stays_on 1 closes_sequence w.1 (stays_fragments 1 values (closes_sequence ∷ w.1) inner) in
     let steps : fold patient_next (at 0 NotYet h) atoms ≡ fold patient_next (at 0 Nobody held) w.1 =
     ap (fold patient_next (at 0 NotYet h)) w.3
-    ∙ head_told h tag vr Undefined w.0 a_fragment_list Nobody (fragments_then values (closes_sequence ∷ w.1)) w.2 (is_nobody tag a_fragment_list e (no_value (same_tag tag PATIENT_ID)))
+    ∙ head_told h tag vr Undefined w.0 a_fragment_list Nobody (fragments_then values (closes_sequence ∷ w.1)) w.2 (is_nobody tag a_fragment_list e (and_false (same_tag tag PATIENT_ID)))
     ∙ fragments_pass Nobody held tt 1 values (closes_sequence ∷ w.1) (omega arith)
     in
     nobody_told tag rest held w.1 w.4 more a e (fold patient_next (at 0 NotYet h) atoms) steps

@@ -20,11 +20,12 @@ use Rattle.dcm_base.specs.Tree.Value.{order}
 use Rattle.dcm_base.specs.Bytes.Head.{tag_at, vr_at, length_at, long_length}
 use Rattle.dcm_base.specs.Bytes.Spelling.{after, form, inside, last_tag, read_as}
 use Rattle.dcm_base.specs.Reading.Bars.{PATIENT_ID, holds_identity, innermost_reached, items_open, patient_bar, patient_fault, reaches_patient}
-use Rattle.dcm_base.specs.Reading.Stop.{Stop, complete, refused, HeadBar, innermost_stop, is_early_bar, is_undecided}
+use Rattle.dcm_base.specs.Reading.Stop.{Stop, complete, refused, HeadBar, innermost_stop, is_undecided}
 use Rattle.dcm_base.specs.Reading.Reads.{INPUT_LIMIT, Reads}
 use Rattle.dcm_base.specs.Steps.Atoms.{Atom, opens, value_byte, closes_leaf, opens_item, closes_item, closes_sequence, opens_fragment, ends, fragments_then, front_atoms, items_then, trees_then}
 use Rattle.dcm_base.proofs.DataSets.OneAnswer.{reads_once}
 use Rattle.dcm_base.proofs.Dictionaries.TagOrder.{below_other_way}
+use Rattle.dcm_cli.proofs.Passes.PatientBar.{never}
 use Rattle.dcm_stream.specs.Ascending.{reached_after, innermost}
 use Rattle.dcm_stream.specs.Follows.{BarsAs}
 use Rattle.dcm_stream.specs.Reading.{Reading, start_of, Opened, closing, size_of, ends_at, closes, element_opens, item_opens, plain_opens, head_opens, full_closed, settled, head_read, byte_read, read_byte, reads_byte, read_all, without_value, value_left, sign_reads, finish, end_shows}
@@ -124,19 +125,13 @@ by_stack (r ∷ outer) n tag b e is =
     ap (λ (c : Bool). cond c (patient_fault (length outer) tag) (Some NotAscending)) is
     ∙ ap (λ (m : ℕ). cond b (patient_fault m tag) (Some NotAscending)) (omega (arith, e))
 
-late : (a h p : Bool) → is_early_bar (cond a (cond h (Some IdentityStays) (cond p (Some NoPatientId) None)) (Some NotAscending)) ≡ false
-late true true p = refl
-late true false true = refl
-late true false false = refl
-late false h p = refl
-
 up_to_bars : BarsAs up_to patient_bar
 up_to_bars = record {
   agree = λ f atoms shows tag vr declared.
       (let items = front_items f atoms [] shows in
       by_stack (fold reached_after (None ∷ []) atoms) (items_open f) tag (is_above tag (innermost_reached f)) (omega (arith, items))
       (same_test (is_above tag (innermost (fold reached_after (None ∷ []) atoms))) (is_above tag (innermost_reached f)) (ascending_bars.agree f atoms shows tag vr declared)));
-  never_early = λ f tag vr declared. late (is_above tag (innermost_reached f)) (holds_identity tag) (reaches_patient (items_open f) tag);
+  never_early = λ f tag vr declared. never (is_above tag (innermost_reached f)) (holds_identity tag) (reaches_patient (items_open f) tag);
 }
 
 -- ---- the elements of the outermost data set

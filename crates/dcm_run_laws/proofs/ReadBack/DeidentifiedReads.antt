@@ -34,12 +34,13 @@ use Rattle.dcm_deid_laws.specs.Taken.{Takes}
 use Rattle.dcm_deid_laws.proofs.Heads.{left_group}
 use Rattle.dcm_deid_laws.proofs.Instance.{big_by, head_again, written_names}
 use Rattle.dcm_deid_laws.proofs.ReadsAgain as laws
+use Rattle.dcm_value.proofs.ReadBack.Units.{bytes_drop}
 use Rattle.dcm_words.specs.Words.{deidentify, dump}
 use Rattle.dcm_cli.specs.Answer.{Answer, FileReads, HeadIs, Source, answer, file, opened, set_at, written_file}
 use Rattle.dcm_run_laws.specs.ReadsAgain.{InOutput, IsTaken, OfWholeFile, ReadsTaken}
 use Rattle.dcm_cli.proofs.Runs.OneSource.{one_source}
 use Rattle.dcm_run_laws.proofs.ReadBack.OtherReaders.{coding_twice}
-use Rattle.dcm_run_laws.proofs.ReadBack.ReadsAgain.{Read, all_size, begins_within, behind_group, ends_by, four_parts, no_bar_reads, of_head, read_of, rest_bytes}
+use Rattle.dcm_run_laws.proofs.ReadBack.ReadsAgain.{Read, all_size, begins_within, behind_group, ends_by, four_parts, no_bar_reads, of_head, read_of}
 
 module _ (options : Options) (reports : Bool) (key input : List ℕ) (a : Answer) (m : Meta) (coding : Coding) (f : Front) (h : IsTaken options reports key input a m coding f) where
   abbrev s : Syntax
@@ -81,7 +82,7 @@ module _ (options : Options) (reports : Bool) (key input : List ℕ) (a : Answer
         start = set_at r.group;
         begins = begins_within input m r.group r.head.named r.head.head;
         bytes = drop (set_at r.group) input;
-        are_bytes = rest_bytes (set_at r.group) input h.are_bytes;
+        are_bytes = bytes_drop (set_at r.group) input h.are_bytes;
         reads = r.set;
         within = set_within;
       }

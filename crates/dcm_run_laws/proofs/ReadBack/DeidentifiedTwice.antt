@@ -18,7 +18,7 @@ use Rattle.dcm_sinks.specs.MetaAgain.{elements_again, meta_again}
 use Rattle.dcm_sinks.proofs.ReadBack.NewMetaReads.{group_read}
 use Rattle.dcm_deid.specs.MadeNew.{made_new}
 use Rattle.dcm_deid.specs.declared.fate.Options.{Options}
-use Rattle.dcm_deid.specs.Meta.{meta_renewing, meta_without_identity, no_preamble}
+use Rattle.dcm_deid.specs.Meta.{implementation, meta_renewing, meta_without_identity, no_preamble}
 use Rattle.dcm_deid.specs.Saying.{deidentified}
 use Rattle.dcm_deid_laws.specs.Laws.{MakesNothingAnew}
 use Rattle.dcm_deid_laws.proofs.Heads.{group_again, left_group}
@@ -70,7 +70,7 @@ module _ (options : Options) (reports : Bool) (key input : List ℕ) (a : Answer
   answered b y = y.answer_is ∙ ap (answer job) (one_source job a.output y.source source y.reads (read_again options))
 
   -- where unique identifiers are retained, the group is written anew alike
-  pub group_twice : options.uids ≡ true → new_meta (renewed (meta_renewing options key) (elements_again head.elements m.uid)) m.uid ≡ group
+  pub group_twice : options.uids ≡ true → new_meta (renewed (meta_renewing options key) implementation (elements_again head.elements m.uid)) m.uid ≡ group
   group_twice retained =
       let r = was_read options reports key input a m coding f h in
       let g = left_group options key m.elements (group_read input m r.group r.head.named h.are_bytes r.head.head) in

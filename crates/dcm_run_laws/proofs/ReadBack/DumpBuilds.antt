@@ -2,6 +2,8 @@
 use Rattle.std.proofs.Common.{◌≡◌, refl, ◌∙◌, ap, sym, subst, ℕ, ◌≤◌, List, [], ◌++◌, append_assoc, length, drop, replicate, Option, None, Some}
 use Rattle.std.proofs.lemmas.List.{append-nil}
 use Rattle.std.proofs.Math.Seq.{drop-append_seam}
+use Rattle.dcm_editor_laws.proofs.Readers.Bytes.{item_more, sequence_more}
+use Rattle.dcm_lemmas.proofs.Lists.{behind_alike}
 use Rattle.dcm_base.specs.declared.mode.Mode.TheVariants.{Full}
 use Rattle.dcm_base.specs.declared.syntax.Coding.{Coding}
 use Rattle.dcm_base.specs.declared.syntax.Syntax.{Syntax}
@@ -17,7 +19,7 @@ use Rattle.dcm_base.specs.Conversion.NewMeta.{new_meta}
 use Rattle.dcm_base.specs.Conversion.Normal.{whole_front}
 use Rattle.dcm_base.specs.Tables.Number.{AreBytes}
 use Rattle.dcm_base.specs.Reading.Reads.{Reads}
-use Rattle.dcm_base.specs.Conversion.Recode.{recode, recode_set, recode_items, unless_dropped, head as head_bytes, sequence_delimiter, item_head, item_delimiter}
+use Rattle.dcm_base.specs.Conversion.Recode.{recode, recode_set, recode_items, head as head_bytes, sequence_delimiter, item_head, item_delimiter}
 use Rattle.dcm_base.specs.Reading.Stop.{Stop, complete}
 use Rattle.dcm_base.specs.Tree.Tree.{Trees, no_tree, leaf, sequence, fragments, Items, no_item, item}
 use Rattle.dcm_base.specs.Tables.Syntax.{read_by, coding_by}
@@ -29,7 +31,6 @@ use Rattle.dcm_cli.specs.Answer.{Answer, Answers, Source, file as a_file, set_at
 use Rattle.dcm_run_laws.specs.DumpBuilds.{CanBeBuilt, BuildsWhatConverts}
 use Rattle.dcm_cli.proofs.Runs.OneSource.{one_source, own_source}
 use Rattle.dcm_base.specs.declared.syntax.Syntax.TheVariants.{Implicit as implicit_in, Little as little_in, Big as big_in}
-use Rattle.dcm_base.specs.declared.tag.Tag.{Tag}
 use Rattle.dcm_base.specs.declared.vr.Vr.TheVariants.{SQ}
 use Rattle.dcm_base.specs.declared.length.Length.TheVariants.{Undefined}
 
@@ -69,16 +70,6 @@ whole_recode : (s : Syntax) (set : Trees) → recode s (whole_front set) ≡ rec
 unfolding recode
 whole_recode s set = append-nil (recode_set s set)
 
--- what is written depends on no dictionary
-leaf_more : (front a b : List ℕ) → a ≡ b → front ++ a ≡ front ++ b
-leaf_more front a b e = ap (λ (x : List ℕ). front ++ x) e
-
-sequence_more : (t : Tag) (x y a b r q : List ℕ) → a ≡ b → r ≡ q → unless_dropped t (x ++ a ++ y) ++ r ≡ unless_dropped t (x ++ b ++ y) ++ q
-sequence_more t x y a b r q e f = cc
-
-item_more : (x y a b r q : List ℕ) → a ≡ b → r ≡ q → x ++ a ++ y ++ r ≡ x ++ b ++ y ++ q
-item_more x y a b r q e f = cc
-
 mutual
   unfolding recode_set
 
@@ -86,15 +77,15 @@ mutual
   set_alike d (implicit_in e) no_tree = refl
   set_alike d (little_in e) no_tree = refl
   set_alike d (big_in e) no_tree = refl
-  set_alike d (implicit_in e) (leaf t vr v rest) = leaf_more _ _ _ (set_alike d (implicit_in e) rest)
-  set_alike d (little_in e) (leaf t vr v rest) = leaf_more _ _ _ (set_alike d (little_in e) rest)
-  set_alike d (big_in e) (leaf t vr v rest) = leaf_more _ _ _ (set_alike d (big_in e) rest)
+  set_alike d (implicit_in e) (leaf t vr v rest) = behind_alike _ _ _ (set_alike d (implicit_in e) rest)
+  set_alike d (little_in e) (leaf t vr v rest) = behind_alike _ _ _ (set_alike d (little_in e) rest)
+  set_alike d (big_in e) (leaf t vr v rest) = behind_alike _ _ _ (set_alike d (big_in e) rest)
   set_alike d (implicit_in e) (sequence t vr size items rest) = sequence_more t (head_bytes (implicit_in e) t SQ Undefined) (sequence_delimiter (implicit_in e)) _ _ _ _ (items_alike d (implicit_in e) items) (set_alike d (implicit_in e) rest)
   set_alike d (little_in e) (sequence t vr size items rest) = sequence_more t (head_bytes (little_in e) t SQ Undefined) (sequence_delimiter (little_in e)) _ _ _ _ (items_alike d (little_in e) items) (set_alike d (little_in e) rest)
   set_alike d (big_in e) (sequence t vr size items rest) = sequence_more t (head_bytes (big_in e) t SQ Undefined) (sequence_delimiter (big_in e)) _ _ _ _ (items_alike d (big_in e) items) (set_alike d (big_in e) rest)
-  set_alike d (implicit_in e) (fragments t vr values rest) = leaf_more _ _ _ (set_alike d (implicit_in e) rest)
-  set_alike d (little_in e) (fragments t vr values rest) = leaf_more _ _ _ (set_alike d (little_in e) rest)
-  set_alike d (big_in e) (fragments t vr values rest) = leaf_more _ _ _ (set_alike d (big_in e) rest)
+  set_alike d (implicit_in e) (fragments t vr values rest) = behind_alike _ _ _ (set_alike d (implicit_in e) rest)
+  set_alike d (little_in e) (fragments t vr values rest) = behind_alike _ _ _ (set_alike d (little_in e) rest)
+  set_alike d (big_in e) (fragments t vr values rest) = behind_alike _ _ _ (set_alike d (big_in e) rest)
 
   items_alike : (d : Dictionary) (s : Syntax) (items : Items) → recode_items (read_by d s) items ≡ recode_items s items
   items_alike d (implicit_in e) no_item = refl

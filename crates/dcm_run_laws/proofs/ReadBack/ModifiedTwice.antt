@@ -2,6 +2,7 @@
 use Rattle.std.proofs.Common.{◌≡◌, ◌∙◌, ap, sym, subst, refl, ℕ, List, [], ◌∷◌, ◌++◌, length, drop, Bool, true, false, cond, arith, inl, inr}
 use Rattle.std.specs.Prelude.{◌⊎◌, ◌==◌, ◌&&◌}
 use Rattle.std.proofs.lemmas.Bool.Decides.{nat_tests}
+use Rattle.dcm_lemmas.proofs.Lists.{joined_alike}
 use Rattle.dcm_base.specs.declared.syntax.Coding.{Coding}
 use Rattle.dcm_base.specs.declared.syntax.Syntax.{Syntax}
 use Rattle.dcm_base.specs.Tables.Syntax.{Little}
@@ -36,9 +37,6 @@ use Rattle.dcm_run_laws.proofs.ReadBack.ReadsAgain.{behind_group, long, modified
 
 -- ---- the meta group
 
-both : {a b c d : List ℕ} → a ≡ b → c ≡ d → a ++ c ≡ b ++ d
-both p q = cc
-
 -- an element that is read again is written alike, and a group length is dropped, by a change of the elements that keeps this one
 module _ (t : Tag) (vr : Vr) (v : List ℕ) where
   abbrev read_vr : Vr
@@ -54,7 +52,7 @@ module _ (t : Tag) (vr : Vr) (v : List ℕ) where
   kept change more others false e is h =
       ap (recode_set Little) is
       ∙ ap (λ (d : Bool). cond d [] (recoded_leaf Little t read_vr read_value) ++ recode_set Little (change more)) e
-      ∙ both (leaf_again Little t vr v) h
+      ∙ joined_alike (leaf_again Little t vr v) h
 
   without_at : (rest : Trees) (c : Bool) → is_tag 2 0x10 t ≡ c → recode_set Little (without_syntax (normal Little (without_syntax rest))) ≡ recode_set Little (without_syntax rest)
       → recode_set Little (without_syntax (normal Little (cond c (without_syntax rest) (leaf t vr v (without_syntax rest))))) ≡ recode_set Little (cond c (without_syntax rest) (leaf t vr v (without_syntax rest)))
@@ -72,7 +70,7 @@ without_twice (sequence t vr declared items rest) m = absurd m
 without_twice (fragments t vr values rest) m = absurd m
 
 -- the element that names the transfer syntax is no group length
-never : (n : ℕ) (a b : Bool) → (n == 16) ≡ b → (a && b) ≡ true → (n == 0) ≡ true → ⊥
+pub never : (n : ℕ) (a b : Bool) → (n == 16) ≡ b → (a && b) ≡ true → (n == 0) ≡ true → ⊥
 never n true true e h z = let named : n ≡ 16 = grind (arith, nat_tests, e) in let dropped : n ≡ 0 = grind (arith, nat_tests, z) in omega (arith, named, dropped)
 never n true false e h z = cc
 never n false b e h z = cc

@@ -1,5 +1,6 @@
 -- What dcmodify has done is so in its output for other readers too.
 use Rattle.std.proofs.Common.{◌≡◌, true, ◌∙◌, ap, sym, subst, refl, ℕ, List, ◌++◌, length, None, drop}
+use Rattle.dcm_base.proofs.DataSets.After.{read_by_twice}
 use Rattle.dcm_base.specs.declared.dictionary.Dictionary.{Dictionary}
 use Rattle.dcm_base.specs.declared.dictionary.Dictionary.TheVariants.{Standard, Extract}
 use Rattle.dcm_base.specs.declared.mode.Mode.TheVariants.{Full}
@@ -41,11 +42,11 @@ use Rattle.dcm_run_laws.specs.ReadsAgain.{HasRoom, InOutput, InWholeOutput, IsMo
 use Rattle.dcm_cli.proofs.Runs.OneSource.{one_source}
 use Rattle.dcm_cli.proofs.Runs.Sure.{beginnings_alike}
 use Rattle.dcm_run_laws.proofs.ReadBack.OutputEdited.{in_output, modifies, was_read}
-use Rattle.dcm_run_laws.proofs.ReadBack.ReadsAgain.{behind_group, long, modified_reads, of_head, read_of, read_twice, written_reads}
+use Rattle.dcm_run_laws.proofs.ReadBack.ReadsAgain.{behind_group, long, modified_reads, of_head, read_of, written_reads}
 use Rattle.dcm_editor_laws.proofs.ReadBack.Plain.{plain}
 
 pub coding_twice : (e d : Dictionary) (c : Coding) → coding_by e (coding_by d c) ≡ coding_by e c
-coding_twice e d c = ap (λ (x : Syntax). record { syntax = x; encapsulated = c.encapsulated }) (read_twice e d c.syntax)
+coding_twice e d c = ap (λ (x : Syntax). record { syntax = x; encapsulated = c.encapsulated }) (read_by_twice e d c.syntax)
 
 big_alike : (e : Dictionary) (s : Syntax) → is_big (read_by e s) ≡ true → is_big s ≡ true
 big_alike e (implicit_in d) big = big

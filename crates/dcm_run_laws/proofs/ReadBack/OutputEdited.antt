@@ -17,11 +17,12 @@ use Rattle.dcm_editor_laws.specs.Modification.{Modifies, ReadsAgain}
 use Rattle.dcm_editor_laws.proofs.ReadBack.EditedReads.{edited_reads}
 use Rattle.dcm_editor_laws.proofs.Trees.Gone.{erased_all_is_gone, erased_private_is_gone, modified_all_is_so}
 use Rattle.dcm_sinks.specs.MetaAgain.{meta_again}
+use Rattle.dcm_value.proofs.ReadBack.Units.{bytes_drop}
 use Rattle.dcm_words.specs.Words.{dump, modify}
 use Rattle.dcm_cli.specs.Answer.{Answer, Source, answer, file, opened, set_at}
 use Rattle.dcm_run_laws.specs.ReadsAgain.{InOutput, IsModified, OfWholeFile}
 use Rattle.dcm_cli.proofs.Runs.OneSource.{one_source}
-use Rattle.dcm_run_laws.proofs.ReadBack.ReadsAgain.{Read, begins_within, modified_reads, read_of, rest_bytes, set_within, of_head}
+use Rattle.dcm_run_laws.proofs.ReadBack.ReadsAgain.{Read, begins_within, modified_reads, read_of, set_within, of_head}
 use Rattle.dcm_edits.specs.EditWords.{meant_edits_in}
 
 module _ (d : Dictionary) (edits : List Edit) (input : List ℕ) (a : Answer) (m : Meta) (coding : Coding) (f : Front) (h : IsModified d edits input a m coding f) where
@@ -46,7 +47,7 @@ module _ (d : Dictionary) (edits : List Edit) (input : List ℕ) (a : Answer) (m
         start = set_at r.group;
         begins = begins_within input m r.group r.head.named r.head.head;
         bytes = drop (set_at r.group) input;
-        are_bytes = rest_bytes (set_at r.group) input h.are_bytes;
+        are_bytes = bytes_drop (set_at r.group) input h.are_bytes;
         reads = r.set;
         within = set_within input a.output m r.group m.uid r.head.named r.head.named d coding r.head.coding_is (edited edits f) r.head.head h.are_bytes
             (ap (λ (x : Answer). x.output) h.answers.answer_is ∙ ap (λ (x : Source). (answer (modify d edits) x).output) h.source_is) h.room.within;

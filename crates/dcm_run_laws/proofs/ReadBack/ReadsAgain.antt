@@ -1,6 +1,8 @@
 -- Files that dcmodify and dcmconv wrote are read again.
 use Rattle.std.proofs.Common.{◌≡◌, true, false, Ok, ◌∙◌, ap, sym, subst, refl, ℕ, ◌+◌, ◌≤◌, List, ◌++◌, append_assoc, length, drop, Option, None, Some, arith, length-append}
 use Rattle.std.proofs.lemmas.List.{append-nil, drop_at}
+use Rattle.dcm_base.proofs.DataSets.After.{read_by_twice}
+use Rattle.dcm_base.proofs.DataSets.Alike.{read_by_dictionary}
 use Rattle.dcm_base.specs.declared.syntax.Coding.{Coding}
 use Rattle.dcm_base.specs.declared.syntax.Syntax.{Syntax}
 use Rattle.dcm_base.specs.declared.syntax.Syntax.TheVariants.{Implicit as implicit_in, Little as little_in, Big as big_in}
@@ -18,7 +20,6 @@ use Rattle.dcm_base.specs.Tables.Transfer.{native, without_pads, coding_of}
 use Rattle.dcm_base_laws.proofs.DataSets.ImplicitLengths.{explicit_fits, implicit_fits}
 use Rattle.dcm_base.proofs.DataSets.OwnSyntax.{own_reads}
 use Rattle.dcm_base.proofs.DataSets.OneAnswer.{reads_once}
-use Rattle.dcm_base.proofs.DumpsBack.Texts.{bytes_of}
 use Rattle.dcm_base.specs.Tables.Syntax.{dictionary_of, read_by, coding_by, is_big}
 use Rattle.dcm_base.specs.declared.dictionary.Dictionary.{Dictionary}
 use Rattle.dcm_base.specs.declared.dictionary.Dictionary.TheVariants.{Extract}
@@ -26,14 +27,14 @@ use Rattle.dcm_stream.proofs.Steps.ReadsSome.{plain}
 use Rattle.dcm_sinks.specs.MetaAgain.{meta_again, Renews, Names, ReadsRenewed}
 use Rattle.dcm_sinks.proofs.ReadBack.GroupEnds.{set_ends}
 use Rattle.dcm_sinks.proofs.ReadBack.NewMetaReads.{any, own}
-use Rattle.dcm_sinks.proofs.ReadBack.RecodeReads.{IsReady, read_ready, recode_reads}
-use Rattle.dcm_sinks.proofs.ReadBack.Sources.{a_byte, bytes_behind}
+use Rattle.dcm_sinks.proofs.ReadBack.RecodeReads.{read_ready, recode_reads}
 use Rattle.dcm_build_laws.proofs.Rebuilds.FilesBuild.{headed}
 use Rattle.dcm_edits.specs.Edit.{Edit, edited}
-use Rattle.dcm_editor_laws.proofs.ReadBack.EditedReads.{own_ready, edited_reads}
+use Rattle.dcm_editor_laws.proofs.ReadBack.EditedReads.{own_ready, edited_reads, room as ready_front}
 use Rattle.dcm_editor_laws.proofs.ReadBack.StaysReady.{FrontReady, edited_ready}
 use Rattle.dcm_edits.proofs.Words.WordValues.{edits_fit}
 use Rattle.dcm_editor_laws.proofs.Words.WordsReady.{edits_ready}
+use Rattle.dcm_value.proofs.ReadBack.Units.{bytes_drop}
 use Rattle.dcm_words.specs.Words.{Job, convert, modify}
 use Rattle.dcm_cli.specs.Answer.{job_dictionary, HeadIs, Answer, Source, file as a_file, set_at, job_bar, answer, target_syntax, target_uid, written_file, FileReads, not_opened, not_changed, opened}
 use Rattle.dcm_head.specs.SyntaxUids.{uid_of_syntax}
@@ -73,9 +74,6 @@ module _ (input : List ℕ) (m : Meta) (group : List ℕ) (coding : Coding) (hea
 
   pub begins_within : set_at group ≤ INPUT_LIMIT
   begins_within = let few = (headed input m group coding head).within in omega (arith, few)
-
-pub rest_bytes : (n : ℕ) (input : List ℕ) → AreBytes input → AreBytes (drop n input)
-rest_bytes n input h = λ i. a_byte (drop n input) i (bytes_behind n input (bytes_of input h))
 
 -- ---- the data set that is written
 
@@ -155,18 +153,8 @@ module _ (input output : List ℕ) (m : Meta) (old uid : List ℕ) (was named : 
 
 -- ---- the dictionary of a coding
 
-pub read_by_it : (d : Dictionary) (s : Syntax) → dictionary_of (read_by d s) ≡ d
-read_by_it d (implicit_in e) = refl
-read_by_it d (little_in e) = refl
-read_by_it d (big_in e) = refl
-
-pub read_twice : (d e : Dictionary) (s : Syntax) → read_by d (read_by e s) ≡ read_by d s
-read_twice d e (implicit_in k) = refl
-read_twice d e (little_in k) = refl
-read_twice d e (big_in k) = refl
-
 pub of_head : (d : Dictionary) (input : List ℕ) (m : Meta) (group : List ℕ) (coding : Coding) → HeadIs d input m group coding → dictionary_of coding.syntax ≡ d
-of_head d input m _ coding h = ap (λ (c : Coding). dictionary_of c.syntax) h.coding_is ∙ read_by_it d h.named.syntax
+of_head d input m _ coding h = ap (λ (c : Coding). dictionary_of c.syntax) h.coding_is ∙ read_by_dictionary d h.named.syntax
 
 -- ---- dcmodify
 
@@ -175,7 +163,7 @@ modified_reads d edits input a m coding f h =
     let r = read_of (modify d edits) input m coding f h.answers.source h.source_is h.answers.reads in
     let rest : List ℕ = drop (set_at r.group) input in
     let le : set_at r.group ≤ INPUT_LIMIT = begins_within input m r.group r.head.named r.head.head in
-    let are : AreBytes rest = rest_bytes (set_at r.group) input h.are_bytes in
+    let are : AreBytes rest = bytes_drop (set_at r.group) input h.are_bytes in
     let mean = subst (λ (k : Dictionary). meant_edits_in k h.words ≡ Ok edits) (sym (of_head d input m r.group coding r.head)) h.meant in
     written_reads input a.output m r.group m.uid r.head.named r.head.named d coding r.head.coding_is (edited edits f) r.head.head h.are_bytes
     (ap (λ (x : Answer). x.output) h.answers.answer_is ∙ ap (λ (x : Source). (answer (modify d edits) x).output) h.source_is)
@@ -204,9 +192,6 @@ target_fits d source (implicit_in e) bar start bytes f same h stay reads = subst
 target_fits d source (little_in e) bar start bytes f same h stay reads = explicit_fits source (little_in (dictionary_of source)) bar start bytes f complete refl refl stay reads
 target_fits d source (big_in e) bar start bytes f same h stay reads = explicit_fits source (big_in (dictionary_of source)) bar start bytes f complete refl refl stay reads
 
-ready_front : (s : Syntax) (f : Front) → IsReady s f → FrontReady s f
-ready_front s f r = subst (FrontReady s) (sym r.is) (r.ready, refl)
-
 -- to a syntax that the data set fits, which a new group names so
 converted_by : (d : Dictionary) (target : Option Syntax) (input : List ℕ) (a : Answer) (m : Meta) (was coding : Coding) (uid : List ℕ) (f : Front) (h : IsConverted d target input a m was f) → uid ≡ target_uid target m → coding.syntax ≡ target_syntax target was
     → ((group : List ℕ) → HeadIs d input m group was → Reads (target_bar coding.syntax) was.syntax (set_at group) (drop (set_at group) input) f complete → FrontFits coding.syntax f)
@@ -218,7 +203,7 @@ converted_by d target input a m was coding uid f h uids syntaxes fits renamed re
     let r = read_of (convert d target) input m was f h.answers.source h.source_is h.answers.reads in
     let rest : List ℕ = drop (set_at r.group) input in
     let le : set_at r.group ≤ INPUT_LIMIT = begins_within input m r.group r.head.named r.head.head in
-    let are : AreBytes rest = rest_bytes (set_at r.group) input h.are_bytes in
+    let are : AreBytes rest = bytes_drop (set_at r.group) input h.are_bytes in
     let reads : Reads (target_bar s) was.syntax (set_at r.group) rest f complete = subst (λ (x : Syntax). Reads (target_bar x) was.syntax (set_at r.group) rest f complete) (sym syntaxes) r.set in
     let fit : FrontFits s f = fits r.group r.head reads in
     let is : a.output ≡ written_file uid s m f =
@@ -237,5 +222,5 @@ converted_reads d (Some s) input a m coding f h =
     converted_by d (Some s) input a m coding (native (read_by (dictionary_of coding.syntax) s)) (uid_of_syntax s) f h refl refl
     (λ group head reads. let to : Syntax = read_by (dictionary_of coding.syntax) s in target_fits d coding.syntax s (target_bar to) (set_at group) (drop (set_at group) input) f (of_head d input m group coding head) h.tells h.stays reads)
     (λ named. native (read_by Extract s))
-    (λ named is. ap (λ (x : Syntax). native x) (ap (λ (k : Dictionary). read_by k s) (ap (λ (c : Coding). dictionary_of c.syntax) is ∙ read_by_it d named.syntax) ∙ sym (read_twice d Extract s)))
+    (λ named is. ap (λ (x : Syntax). native x) (ap (λ (k : Dictionary). read_by k s) (ap (λ (c : Coding). dictionary_of c.syntax) is ∙ read_by_dictionary d named.syntax) ∙ sym (read_by_twice d Extract s)))
     (λ named set r. any input (uid_of_syntax s) set m named (native (read_by Extract s)) r (syntax_named s))

@@ -1,5 +1,5 @@
 -- Nothing of what is taken out of a file is in the answer to it.
-use Rattle.std.proofs.Common.{◌≡◌, ◌∙◌, ap, sym, subst, refl, ℕ, ℤ, List, [], ◌++◌, Bool, true, false, ◌||◌, Option, None, Some}
+use Rattle.std.proofs.Common.{◌≡◌, ◌∙◌, ap, sym, subst, refl, ℕ, ◌+◌, ℤ, arith, List, [], ◌++◌, Bool, true, false, ◌||◌, Option, None, Some}
 use Rattle.std.specs.Prelude.{if◌then◌else◌, ◌&&◌}
 use Rattle.dcm_base.specs.declared.syntax.Coding.{Coding}
 use Rattle.dcm_base.specs.declared.syntax.Syntax.{Syntax}
@@ -17,21 +17,24 @@ use Rattle.dcm_base.specs.Tree.Front.{Front}
 use Rattle.dcm_base.specs.Tree.Tree.{Trees, no_tree, leaf, sequence, fragments}
 use Rattle.dcm_build_laws.proofs.Rebuilds.FilesBuild.{headed}
 use Rattle.dcm_uid.specs.Uid.{new_value, replaced}
-use Rattle.dcm_deid.specs.Alike.{Alike, moving}
+use Rattle.dcm_deid.specs.Alike.{Alike, moving, vanished}
 use Rattle.dcm_deid.specs.declared.fate.Depth.TheVariants.{Outermost}
 use Rattle.dcm_deid.specs.declared.fate.Options.{Options}
 use Rattle.dcm_deid.specs.declared.meta.MetaFate.{MetaFate}
 use Rattle.dcm_deid.specs.declared.meta.MetaFate.TheVariants.{Remove, Keep, Uid}
 use Rattle.dcm_deid.specs.Deidentify.{deidentified_set}
-use Rattle.dcm_deid.specs.Meta.{meta_fate, meta_renewing, no_preamble, value_by_fate}
+use Rattle.dcm_deid.specs.Emptied.{dates_emptied, emptied}
+use Rattle.dcm_deid.specs.Fate.{fate_as}
+use Rattle.dcm_deid.specs.Meta.{implementation, meta_fate, meta_renewing, no_preamble, value_by_fate}
 use Rattle.dcm_deid.specs.Pixels.{may_show}
 use Rattle.dcm_deid.specs.MadeNew.{made_new}
 use Rattle.dcm_deid.specs.Saying.{deidentified, said, whole_of}
 use Rattle.dcm_deid.proofs.Trees.Again.{nothing_flows}
+use Rattle.dcm_deid.proofs.Trees.Vanished.{by_left}
 use Rattle.dcm_deid.proofs.Trees.Said.{nothing_flows_out, of_whole, same_said, set_with_all}
 use Rattle.dcm_words.specs.Words.{Job, deidentify}
 use Rattle.dcm_cli.specs.Answer.{Answer, answer, shows_identity, status_of_lines}
-use Rattle.dcm_cli.specs.ErrorLines.{pixels_line}
+use Rattle.dcm_cli.specs.ErrorLines.{emptied_lines, pixels_line}
 use Rattle.dcm_run_laws.specs.Flows.{NothingFlows, leaves, meta_left, value_left}
 use Rattle.dcm_cli.proofs.Passes.DeidentifyReads.{IsWhole, read_is_whole}
 use Rattle.dcm_run_laws.proofs.ReadBack.ReadsAgain.{begins_within, read_of}
@@ -40,11 +43,11 @@ use Rattle.dcm_run_laws.proofs.ReadBack.ReadsAgain.{begins_within, read_of}
 
 module _ (options : Options) where
   -- the transfer syntax stays
-  stays_by : (a b c d e : Bool) (other : MetaFate) → c ≡ true → (if a || b || c || d || e then Keep else other) ≡ Keep
-  stays_by true b true d e other h = refl
-  stays_by false true true d e other h = refl
-  stays_by false false true d e other h = refl
-  stays_by a b false d e other h = absurd (let no : false ≡ true = h in cc)
+  stays_by : (a b c : Bool) (other : MetaFate) → c ≡ true → (if a || b || c then Keep else other) ≡ Keep
+  stays_by true b true other h = refl
+  stays_by false true true other h = refl
+  stays_by false false true other h = refl
+  stays_by a b false other h = absurd (let no : false ≡ true = h in cc)
 
   value_by : (left : Option (List ℕ)) (t : Bool) (tag : Tag) (vr : Vr) (value : List ℕ) (others rest : Trees) → is_tag 2 0x10 tag ≡ t → (t ≡ true → left ≡ Some value) → syntax_value others ≡ syntax_value rest
       → syntax_value (leaf_if left tag vr others) ≡ syntax_value (leaf tag vr value rest)
@@ -54,11 +57,11 @@ module _ (options : Options) where
   value_by (Some v) false tag vr value others rest at stays same =
       ap (λ (t : Bool). if t then v else syntax_value others) at ∙ same ∙ sym (ap (λ (t : Bool). if t then value else syntax_value rest) at)
 
-  syntax_left : (elements : Trees) → syntax_value (renewed (leaves options) elements) ≡ syntax_value elements
+  syntax_left : (elements : Trees) → syntax_value (renewed (leaves options) no_tree elements) ≡ syntax_value elements
   syntax_left no_tree = refl
   syntax_left (leaf tag vr value rest) =
-      value_by (leaves options tag vr value) (is_tag 2 0x10 tag) tag vr value (renewed (leaves options) rest) rest refl
-      (λ e. ap (λ (f : MetaFate). value_left f value) (stays_by (is_tag 2 1 tag) (is_tag 2 2 tag) (is_tag 2 0x10 tag) (is_tag 2 0x12 tag) (is_tag 2 0x13 tag) _ e)) (syntax_left rest)
+      value_by (leaves options tag vr value) (is_tag 2 0x10 tag) tag vr value (renewed (leaves options) no_tree rest) rest refl
+      (λ e. ap (λ (f : MetaFate). value_left f value) (stays_by (is_tag 2 1 tag) (is_tag 2 2 tag) (is_tag 2 0x10 tag) _ e)) (syntax_left rest)
   syntax_left (sequence tag vr declared items rest) = syntax_left rest
   syntax_left (fragments tag vr values rest) = syntax_left rest
 
@@ -72,22 +75,22 @@ module _ (options : Options) where
     abbrev anew : Tag → Vr → List ℕ → Option (List ℕ)
     anew tag vr left = from_left (meta_fate options tag) left
 
-    leaf_anew : (fate : MetaFate) (tag : Tag) (vr : Vr) (value : List ℕ) (left rest : Trees) → meta_fate options tag ≡ fate → renewed anew left ≡ rest
-        → renewed anew (leaf_if (value_left fate value) tag vr left) ≡ leaf_if (value_by_fate fate key value) tag vr rest
+    leaf_anew : (fate : MetaFate) (tag : Tag) (vr : Vr) (value : List ℕ) (left rest : Trees) → meta_fate options tag ≡ fate → renewed anew implementation left ≡ rest
+        → renewed anew implementation (leaf_if (value_left fate value) tag vr left) ≡ leaf_if (value_by_fate fate key value) tag vr rest
     unfolding new_value
     leaf_anew Remove tag vr value left rest at e = e
-    leaf_anew Keep tag vr value left rest at e = ap (λ (f : MetaFate). leaf_if (from_left f value) tag vr (renewed anew left)) at ∙ ap (leaf tag vr value) e
+    leaf_anew Keep tag vr value left rest at e = ap (λ (f : MetaFate). leaf_if (from_left f value) tag vr (renewed anew implementation left)) at ∙ ap (leaf tag vr value) e
     leaf_anew Uid tag vr value left rest at e =
-        ap (λ (f : MetaFate). leaf_if (from_left f (without_pads value)) tag vr (renewed anew left)) at ∙ ap (leaf tag vr (replaced key (without_pads value))) e
+        ap (λ (f : MetaFate). leaf_if (from_left f (without_pads value)) tag vr (renewed anew implementation left)) at ∙ ap (leaf tag vr (replaced key (without_pads value))) e
 
-    all_anew : (elements : Trees) → renewed anew (renewed (leaves options) elements) ≡ renewed (meta_renewing options key) elements
+    all_anew : (elements : Trees) → renewed anew implementation (renewed (leaves options) no_tree elements) ≡ renewed (meta_renewing options key) implementation elements
     all_anew no_tree = refl
-    all_anew (leaf tag vr value rest) = leaf_anew (meta_fate options tag) tag vr value (renewed (leaves options) rest) _ refl (all_anew rest)
+    all_anew (leaf tag vr value rest) = leaf_anew (meta_fate options tag) tag vr value (renewed (leaves options) no_tree rest) _ refl (all_anew rest)
     all_anew (sequence tag vr declared items rest) = ap (sequence tag vr declared items) (all_anew rest)
     all_anew (fragments tag vr values rest) = ap (fragments tag vr values) (all_anew rest)
 
-    pub group_alike : (m n : Meta) → meta_left options m ≡ meta_left options n → renewed (meta_renewing options key) m.elements ≡ renewed (meta_renewing options key) n.elements
-    group_alike m n e = sym (all_anew m.elements) ∙ ap (renewed anew) e ∙ all_anew n.elements
+    pub group_alike : (m n : Meta) → meta_left options m ≡ meta_left options n → renewed (meta_renewing options key) implementation m.elements ≡ renewed (meta_renewing options key) implementation n.elements
+    group_alike m n e = sym (all_anew m.elements) ∙ ap (renewed anew implementation) e ∙ all_anew n.elements
 
   pub syntax_alike : (m n : Meta) → meta_left options m ≡ meta_left options n → syntax_value m.elements ≡ syntax_value n.elements
   syntax_alike m n e = sym (syntax_left m.elements) ∙ ap syntax_value e ∙ syntax_left n.elements
@@ -121,12 +124,23 @@ module _ (options : Options) (key : List ℕ) (d e : ℤ) (f g : Front) (v : IsW
       ∙ ap (λ (news : List (Tag × Trees)). may_show (set_with_all news (deidentified_set two (made_new two key) Outermost w.set))) (same_said options d e)
       ∙ sym (shows_set two g w)
 
+  -- as many dates have nothing left
+  set_emptied : (o : Options) (x : Front) (u : IsWhole x) → dates_emptied o (made_new o key) x ≡ vanished o Outermost u.set
+  unfolding dates_emptied
+  set_emptied o x u =
+      let all : ℕ = emptied (fate_as o) (made_new o key) Outermost u.set in
+      let same : all + 0 ≡ all = omega arith in
+      ap (dates_emptied o (made_new o key)) u.is ∙ same ∙ by_left o key (fate_as o) Outermost u.set
+
+  pub emptied_alike : dates_emptied one (made_new one key) f ≡ dates_emptied two (made_new two key) g
+  emptied_alike = set_emptied one f v ∙ sets_alike.same_vanished ∙ sym (set_emptied two g w)
+
 -- ---- the answer
 
-abbrev answer_of : (shows : Bool) → List ℕ → Answer
-answer_of shows output = record {
+abbrev answer_of : (emptied : ℕ) (shows : Bool) → List ℕ → Answer
+answer_of emptied shows output = record {
   output = output;
-  lines = if shows then pixels_line else [];
+  lines = emptied_lines emptied ++ (if shows then pixels_line else []);
   status = status_of_lines (if shows then pixels_line else []);
 }
 
@@ -149,15 +163,16 @@ nothing_flows_in_answers options reports key first second d e a b m n f g h k le
     let codings : h.coding ≡ k.coding = r.head.coding_is ∙ ap (coding_by Standard) same_name ∙ sym s.head.coding_is in
     let groups = group_alike options key m n left in
     let header : Trees → List ℕ → List ℕ = λ elements uid. no_preamble ++ PREFIX ++ new_meta elements uid in
-    let outputs : header (renewed (meta_renewing options key) m.elements) m.uid ++ recode h.coding.syntax (deidentified one (made_new one key) f)
-    ≡ header (renewed (meta_renewing options key) n.elements) n.uid ++ recode k.coding.syntax (deidentified two (made_new two key) g) =
+    let outputs : header (renewed (meta_renewing options key) implementation m.elements) m.uid ++ recode h.coding.syntax (deidentified one (made_new one key) f)
+    ≡ header (renewed (meta_renewing options key) implementation n.elements) n.uid ++ recode k.coding.syntax (deidentified two (made_new two key) g) =
     ap (λ (t : Trees). header t m.uid ++ recode h.coding.syntax (deidentified one (made_new one key) f)) groups
-    ∙ ap (λ (u : List ℕ). header (renewed (meta_renewing options key) n.elements) u ++ recode h.coding.syntax (deidentified one (made_new one key) f)) uids
-    ∙ ap (λ (c : Coding). header (renewed (meta_renewing options key) n.elements) n.uid ++ recode c.syntax (deidentified one (made_new one key) f)) codings
-    ∙ ap (λ (bs : List ℕ). header (renewed (meta_renewing options key) n.elements) n.uid ++ bs) (bytes_alike options key d e f g v w alike k.coding.syntax)
+    ∙ ap (λ (u : List ℕ). header (renewed (meta_renewing options key) implementation n.elements) u ++ recode h.coding.syntax (deidentified one (made_new one key) f)) uids
+    ∙ ap (λ (c : Coding). header (renewed (meta_renewing options key) implementation n.elements) n.uid ++ recode c.syntax (deidentified one (made_new one key) f)) codings
+    ∙ ap (λ (bs : List ℕ). header (renewed (meta_renewing options key) implementation n.elements) n.uid ++ bs) (bytes_alike options key d e f g v w alike k.coding.syntax)
     in
     let shows : (reports && shows_identity one key f) ≡ (reports && shows_identity two key g) = ap (λ (b : Bool). reports && b) (shows_alike options key d e f g v w alike) in
     h.answers.answer_is ∙ ap (answer job) h.source_is
-    ∙ ap (λ (bs : List ℕ). answer_of (reports && shows_identity one key f) bs) outputs
-    ∙ ap (λ (b : Bool). answer_of b (header (renewed (meta_renewing options key) n.elements) n.uid ++ recode k.coding.syntax (deidentified two (made_new two key) g))) shows
+    ∙ ap (λ (bs : List ℕ). answer_of (dates_emptied one (made_new one key) f) (reports && shows_identity one key f) bs) outputs
+    ∙ ap (λ (b : Bool). answer_of (dates_emptied one (made_new one key) f) b (header (renewed (meta_renewing options key) implementation n.elements) n.uid ++ recode k.coding.syntax (deidentified two (made_new two key) g))) shows
+    ∙ ap (λ (count : ℕ). answer_of count (reports && shows_identity two key g) (header (renewed (meta_renewing options key) implementation n.elements) n.uid ++ recode k.coding.syntax (deidentified two (made_new two key) g))) (emptied_alike options key d e f g v w alike)
     ∙ sym (k.answers.answer_is ∙ ap (answer other) k.source_is)

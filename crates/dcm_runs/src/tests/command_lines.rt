@@ -14,6 +14,11 @@ dcmdump -f -te +fo a: V5: options do not go together
 dcmconv a -L b: V2 at word 3: unknown option
 dcmconv a a -x: V2 at word 4: unknown option
 dcmconv +u8 a b: V2 at word 2: unknown option
+dcmdump +ow -: V2 at word 2: unknown option
+dcmconv -ow - -: V2 at word 2: unknown option
+dump2dcm +l +ow - -: V3 at word 2: bad option value
+dcmdeid +rm +ow - -: V3 at word 2: bad option value
+dcmconv +ow a a: V6: input and output are the same path
 dump2dcm a b +u8: V2 at word 4: unknown option
 dcmdeid +u8 a b: V2 at word 2: unknown option
 dcmconv a: V4: wrong number of paths
@@ -30,6 +35,18 @@ dump2dcm +l 080 a a: V6: input and output are the same path
 dump2dcm +dict a b: V2 at word 2: unknown option
 dump2dcm a b -dict: V2 at word 4: unknown option
 dcmdump +dict: V4: wrong number of paths
+dcmdump +P Nothing +P: V3 at word 4: bad option value
+dcmdump +q +P: V2 at word 2: unknown option
+dcmdump +P +q +q: V2 at word 4: unknown option
+dcmdump - +P PatientID +P patientid: U2 in element 2: unknown tag
+dcmdump +P +P -: U2 in element 1: unknown tag
+dcmdump +P (0010,001) +P No: U1 in element 1: bad option or path
+dcmdump +P  -: U1 in element 1: bad option or path
+dcmdump +P ContentSequence[0].CodeValue -: U2 in element 1: unknown tag
+dcmdump +P PatientID: V4: wrong number of paths
+dcmdump +P PatientID -f -: V5: options do not go together
+dcmdump -f - +P No: U2 in element 1: unknown tag
+dcmconv +P PatientID a b: V2 at word 2: unknown option
 dcmconv a +dict a: V6: input and output are the same path
 dcmdeid +k - -: V3 at word 2: bad option value
 dcmdeid +rl +k - - -: V3 at word 3: bad option value
@@ -53,6 +70,9 @@ const REFUSED_EDITS: &str = "\
 dcmodify: V4: wrong number of paths
 dcmodify a: V4: wrong number of paths
 dcmodify -ep a: V4: wrong number of paths
+dcmodify -ep - +ow: V4: wrong number of paths
+dcmodify -e +ow - -: U2 in edit 1: unknown tag
+dcmodify -i +ow - -: U2 in edit 1: unknown tag
 dcmodify -e Rows a -b: V4: wrong number of paths
 dcmodify -e Rows a : V4: wrong number of paths
 dcmodify -e Rows a a: V6: input and output are the same path

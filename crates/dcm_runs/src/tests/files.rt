@@ -31,13 +31,14 @@ fn file<'a>(name: &'a [u8], number: u64, bytes: &'a [u8]) -> MemFile<'a> {
     }
 }
 
-/// What words leave over the file `a`, which has a second name `link`, and a file `other`. Standard input has the bytes
-/// of `a`.
+/// What words leave over the file `a`, which has a second name `link`, a file `other` without bytes, and a file `full`.
+/// Standard input has the bytes of `a`.
 fn left_by(alloc: Global, words: &[&[u8]], bytes: &[u8]) -> Result<Left, AllocError> {
     let files = [
         file(b"a", 1, bytes),
         file(b"link", 1, bytes),
         file(b"other", 2, b""),
+        file(b"full", 3, b"old"),
     ];
     let system = MemSystem::new(&files, bytes, MemOut::new(room(alloc, 1000)?));
     let errors = MemOut::new(room(alloc, 200)?);
@@ -93,14 +94,21 @@ fn refused(words: &'static [&'static [u8]], told: &'static [u8], status: u8) -> 
     }
 }
 
-fn works() -> [Case; 6] {
+fn works() -> [Case; 9] {
     let file = Start::ExplicitLittle.bytes();
     let big = Start::Big.bytes();
     [
         done(&[b"dcmdump", b"a"], header_of(Start::ExplicitLittle), LINE),
         done(&[b"dcmconv", b"+tb", b"link", b"new"], big, BIG_NAME),
         done(&[b"dcmconv", b"a", b"other"], file, NAME),
-        done(&[b"dcmconv", b"-", b"a"], file, NAME),
+        done(&[b"dcmconv", b"+ow", b"-", b"a"], file, NAME),
+        done(&[b"dcmconv", b"a", b"full", b"+ow"], file, NAME),
+        done(
+            &[b"dcmodify", b"-e", b"PatientName", b"+ow", b"a", b"full"],
+            file,
+            b"",
+        ),
+        done(&[b"dcmodify", b"+ow", b"a", b"new"], file, NAME),
         done(&[b"dcmconv", b"a", b"-"], file, NAME),
         done(&[b"dcmconv", b"--version"], VERSION, b""),
     ]
@@ -110,21 +118,35 @@ const NO_INPUT: &[u8] = b"dcmtools: input cannot be opened\n";
 
 const NO_OUTPUT: &[u8] = b"dcmtools: output cannot be opened\n";
 
+const SAME_FILE: &[u8] = b"dcmtools: output is the input\n";
+
+const THERE: &[u8] = b"dcmtools: output is there already\n";
+
 const SAME_PATH: &[u8] = b"dcmtools: V6: input and output are the same path\n";
 
-fn failures() -> [Case; 6] {
+fn failures() -> [Case; 8] {
     [
         refused(&[b"dcmdump", b"none"], NO_INPUT, 4),
         refused(&[b"dcmdump", b"\xff"], NO_INPUT, 4),
         refused(&[b"dcmconv", b"none", b"\xff"], NO_INPUT, 4),
         refused(&[b"dcmconv", b"a", b"\xff"], NO_OUTPUT, 4),
         refused(&[b"dcmconv", b"a", b"a"], SAME_PATH, 1),
-        Case {
-            words: &[b"dcmconv", b"a", b"link"],
-            output: Some((b"", b"")),
-            told: b"dcmtools: output is the input\n",
-            status: 4,
-        },
+        refused(&[b"dcmconv", b"a", b"link"], SAME_FILE, 4),
+        refused(&[b"dcmconv", b"+ow", b"a", b"link"], SAME_FILE, 4),
+        refused(&[b"dcmdeid", b"a", b"link"], SAME_FILE, 4),
+    ]
+}
+
+/// Outputs that are there, which stay.
+fn outputs_there() -> [Case; 7] {
+    [
+        refused(&[b"dcmconv", b"a", b"full"], THERE, 4),
+        refused(&[b"dcmconv", b"-", b"a"], THERE, 4),
+        refused(&[b"dump2dcm", b"a", b"full"], THERE, 4),
+        refused(&[b"dcmodify", b"-ep", b"a", b"full"], THERE, 4),
+        refused(&[b"dcmdeid", b"a", b"full"], THERE, 4),
+        refused(&[b"dcmconv", b"none", b"full"], NO_INPUT, 4),
+        refused(&[b"dcmdeid", b"none", b"full"], NO_INPUT, 4),
     ]
 }
 
@@ -151,6 +173,11 @@ fn expect_cases(alloc: Global, cases: &[Case]) -> Result<(), Fail> {
 #[test]
 fn words_that_work(rt: HostRuntime) -> Result<(), Fail> {
     expect_cases(rt.alloc(), &works())
+}
+
+#[test]
+fn outputs_that_stay(rt: HostRuntime) -> Result<(), Fail> {
+    expect_cases(rt.alloc(), &outputs_there())
 }
 
 #[test]

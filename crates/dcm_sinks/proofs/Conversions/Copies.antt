@@ -6,13 +6,14 @@ use Rattle.std.proofs.lemmas.Bool.Decides.{eqb_tells}
 use mathlib.Core.Logic.{⊎_elim}
 use Rattle.std.proofs.lemmas.Nat.{div-add-mod'}
 use Rattle.std.proofs.lemmas.List.{length-append, append-nil, length-take, length-drop, take-append-drop}
+use Rattle.dcm_lemmas.proofs.Options.{known_nothing}
 use Rattle.dcm_base.specs.Steps.Steps.{outputs, Goes}
 use Rattle.dcm_devices.specs.Device.{AppendsFront, Puts}
 use Rattle.dcm_base.specs.Tree.Value.{units, rest_part, turned}
 use Rattle.dcm_base.proofs.Conversions.UnitLaws.{units_cons, units_none, cut, left, cut_units}
 use Rattle.dcm_base.proofs.Conversions.Order.{rest_cons, rest_short, turned_cons, turned_short}
 use Rattle.std.proofs.lemmas.Grind.{flat_map-append}
-use Rattle.dcm_devices.proofs.Writes.Puts.{puts_behind, front_longer, append_known_none}
+use Rattle.dcm_devices.proofs.Writes.Puts.{puts_behind, front_longer}
 use Rattle.dcm_value.proofs.UnitOrder.Pieces.{units_append}
 use Rattle.dcm_value.proofs.UnitOrder.Buffers.{Fed, fed_parts, first_size, both_size}
 use Rattle.dcm_sinks.specs.EncodeSink.{Copying, copies, copy_writes, ordered}
@@ -157,7 +158,7 @@ pub whole_goes : {T E : Type 0} (c : Copying) (some : 0 < c.unit) (bytes : List 
 whole_goes c some bytes none whole held holds r put =
     let short : length c.held < c.unit = subst (λ (h : List ℕ). length h < c.unit) (sym none) some in
     fed_goes c some short bytes [] bytes [] (whole_fed c.unit some c.held bytes none whole) held held holds c r (ap (holding c) none)
-    (sym (append_known_none held) ∙ ap (append_known held) (nothing c.is_turned)) put
+    (sym (known_nothing held) ∙ ap (append_known held) (nothing c.is_turned)) put
   where
     nothing : (t : Bool) → [] ≡ cond t (turned c.unit []) []
     nothing true = sym (turned_short c.unit some [] some)

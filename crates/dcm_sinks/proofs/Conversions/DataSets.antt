@@ -2,6 +2,7 @@
 use Rattle.std.proofs.Common.{◌≡◌, ℕ, suc, ◌+◌, ◌==◌, ◌≤◌, List, [], ◌∷◌, ◌++◌, length, ap, sym, subst, ◌∙◌, refl, append_assoc, arith, map, flat_map, Bool, true, false, cond, Option, Some, None}
 use Rattle.std.specs.Prelude.{min}
 use Rattle.std.proofs.lemmas.List.{append-nil}
+use Rattle.dcm_lemmas.proofs.Lists.{five_joined}
 use Rattle.dcm_base.specs.declared.tag.Tag.{Tag}
 use Rattle.dcm_base.specs.declared.vr.Vr.{Vr}
 use Rattle.dcm_base.specs.declared.vr.Vr.TheVariants.{SQ}
@@ -22,9 +23,6 @@ use Rattle.dcm_sinks.specs.EncodeSink.{leaf_copy, fragment_copy, padding, encode
 use Rattle.dcm_sinks.specs.Laws.{StaysShallow}
 use Rattle.dcm_sinks.proofs.Dumps.OpenLists.{stays_on, stays_opened, stays_bytes, stays_fragments, stays_trees, stays_items}
 use Rattle.dcm_sinks.proofs.Conversions.Values.{encodes, dropping, sending, evened_padding, copied_value, copied_leaf, copied_fragment}
-
-four : (a b c d e : List ℕ) → a ++ (b ++ (c ++ (d ++ e))) ≡ (((a ++ b) ++ c) ++ d) ++ e
-four a b c d e = simp append_assoc
 
 three : (a b c d : List ℕ) → a ++ (b ++ (c ++ d)) ≡ ((a ++ b) ++ c) ++ d
 three a b c d = simp append_assoc
@@ -186,7 +184,7 @@ module _ (target : Syntax) where
       let first : List ℕ = item_head target (Known (even n)) in
       ap (λ z. first ++ z) (copied_fragment target n value (closes_leaf ∷ fragments_then rest others))
       ∙ ap (λ z. first ++ (value ++ (padding n 0 ++ z))) (fragments_encode rest others)
-      ∙ four first value (padding n 0) (flat_map (recoded_fragment target) rest) (ready others)
+      ∙ five_joined first value (padding n 0) (flat_map (recoded_fragment target) rest) (ready others)
       ∙ ap (λ z. (z ++ flat_map (recoded_fragment target) rest) ++ ready others) (append_assoc first value (padding n 0) ∙ ap (λ z. first ++ z) (sym (evened_padding 0 value)))
 
   within_itself : (k : ℕ) → 2 ≤ suc k + suc k
@@ -246,7 +244,7 @@ module _ (target : Syntax) where
         ap ready w.2
         ∙ ap (λ z. first ++ z) (trees_encode k set w.0 (closes_item ∷ w.1) in_h w.3)
         ∙ ap (λ z. first ++ (recode_set target set ++ (last ++ z))) (items_encode k rest w.1 after rest_h w.4)
-        ∙ four first (recode_set target set) last (recode_items target rest) (ready after)
+        ∙ five_joined first (recode_set target set) last (recode_items target rest) (ready after)
 
   fragment_open : (last : Option (ℕ × List ℕ)) → ready (open_fragment_atoms last) ≡ recode_open_fragment target last
   fragment_open None = refl

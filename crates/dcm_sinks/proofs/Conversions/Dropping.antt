@@ -2,9 +2,9 @@
 use Rattle.std.proofs.Common.{◌≡◌, ◌∙◌, ap, sym, refl, ℕ, zero, suc, List, [], ◌∷◌, ◌++◌, map, Option, Some, None, true}
 use Rattle.std.specs.Prelude.{fold}
 use Rattle.std.specs.Io.KnownBytes.{append_known}
+use Rattle.dcm_lemmas.proofs.Options.{known_nothing}
 use Rattle.dcm_base.specs.Steps.Atoms.{value_byte}
 use Rattle.dcm_base.specs.Steps.Steps.{outputs}
-use Rattle.dcm_devices.proofs.Writes.Puts.{append_known_none}
 use Rattle.dcm_stream.specs.declared.token.Token.{Token}
 use Rattle.dcm_stream.specs.declared.token.Token.TheVariants.{Open, Bytes, CloseLeaf, OpenItem, CloseItem, CloseSeq, OpenFragment, End}
 use Rattle.dcm_stream.specs.Tokens.{atoms_of}
@@ -36,7 +36,7 @@ no_copy_state s bytes d c =
 
 pub no_copy_bytes : (s : EncodeState) (bytes : List ℕ) (held : Option (List ℕ)) → s.dropped ≡ 0 → s.copying ≡ None → held ≡ append_known held (outputs encode_step encode_writes s (map value_byte bytes))
 no_copy_bytes s bytes held d c =
-    sym (append_known_none held) ∙ ap (append_known held) (sym ((none_over s bytes).1) ∙ ap (λ (t : EncodeState). outputs encode_step encode_writes t (map value_byte bytes)) (sym (still s None d c)))
+    sym (known_nothing held) ∙ ap (append_known held) (sym ((none_over s bytes).1) ∙ ap (λ (t : EncodeState). outputs encode_step encode_writes t (map value_byte bytes)) (sym (still s None d c)))
 
 -- with one
 pub copy_state : (s t : EncodeState) (c d : Copying) (bytes : List ℕ) → s.dropped ≡ 0 → s.copying ≡ Some c → d ≡ fold copies c bytes → t ≡ live s (Some d) → t ≡ fold encode_step s (map value_byte bytes)
@@ -71,4 +71,4 @@ pub dropped_state : (s : EncodeState) (token : Token) → is_open s.dropped ≡ 
 dropped_state s token e = sym ((drops_within s s.dropped token e).0)
 
 pub dropped_bytes : (s : EncodeState) (token : Token) (held : Option (List ℕ)) → is_open s.dropped ≡ true → held ≡ append_known held (outputs encode_step encode_writes s (atoms_of token))
-dropped_bytes s token held e = sym (append_known_none held) ∙ ap (append_known held) (sym ((drops_within s s.dropped token e).1))
+dropped_bytes s token held e = sym (known_nothing held) ∙ ap (append_known held) (sym ((drops_within s s.dropped token e).1))

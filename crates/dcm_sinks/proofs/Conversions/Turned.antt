@@ -4,13 +4,13 @@ use Rattle.std.specs.Prelude.{Result, Err, Ok, IsErr, reverse}
 use Rattle.std.specs.Io.KnownBytes.{append_known}
 use Rattle.std.proofs.lemmas.Bool.{cases_lt}
 use Rattle.std.proofs.lemmas.List.{append-nil, length-take, length-drop, take-append-drop, take_all, drop_all}
+use Rattle.dcm_lemmas.proofs.Options.{known_nothing, known_twice}
 use Rattle.dcm_base.specs.declared.vr.Vr.{Vr}
 use Rattle.dcm_base.specs.declared.vr.Vr.TheVariants.{AT, US, SS, OW, UL, SL, FL, OF, OL, FD, OD, OV, SV, UV}
 use Rattle.dcm_devices.specs.Device.{AppendsFront, Puts}
 use Rattle.dcm_base.specs.Tables.Representation.{unit}
 use Rattle.dcm_base.specs.Tree.Value.{turned}
 use Rattle.dcm_base.proofs.Conversions.Order.{turned_cons, turned_short, unit_some}
-use Rattle.dcm_devices.proofs.Writes.Puts.{append_known_twice, append_known_none}
 
 -- some of the bytes went out, and these are left
 pub record PutSoFar (held holds : Option (List ℕ)) (all left : List ℕ) : Type 0 where
@@ -19,13 +19,13 @@ pub record PutSoFar (held holds : Option (List ℕ)) (all left : List ℕ) : Typ
   pub grown : holds ≡ append_known held done
 
 pub put_none : (held : Option (List ℕ)) (all : List ℕ) → PutSoFar held held all all
-put_none held all = record { done = []; whole = refl; grown = sym (append_known_none held) }
+put_none held all = record { done = []; whole = refl; grown = sym (known_nothing held) }
 
 pub put_more : (held mid holds : Option (List ℕ)) (all left part after : List ℕ) → PutSoFar held mid all left → left ≡ part ++ after → holds ≡ append_known mid part → PutSoFar held holds all after
 put_more held mid holds all left part after so split put = record {
   done = so.done ++ part;
   whole = so.whole ∙ ap (λ z. so.done ++ z) split ∙ sym (append_assoc so.done part after);
-  grown = put ∙ ap (λ known. append_known known part) so.grown ∙ append_known_twice held so.done part;
+  grown = put ∙ ap (λ known. append_known known part) so.grown ∙ known_twice held so.done part;
 }
 
 pub put_all_of : (held holds : Option (List ℕ)) (all : List ℕ) → PutSoFar held holds all [] → holds ≡ append_known held all
@@ -37,7 +37,7 @@ put_stopped held mid holds all left part after so split front = record {
   next = front.next;
   rest = front.rest ++ after;
   whole = so.whole ∙ ap (λ z. so.done ++ z) (split ∙ ap (λ z. z ++ after) front.whole ∙ append_assoc front.front (front.next ∷ front.rest) after) ∙ sym (append_assoc so.done front.front (front.next ∷ (front.rest ++ after)));
-  grown = front.grown ∙ ap (λ known. append_known known front.front) so.grown ∙ append_known_twice held so.done front.front;
+  grown = front.grown ∙ ap (λ known. append_known known front.front) so.grown ∙ known_twice held so.done front.front;
 }
 
 module _ (k : ℕ) (some : 0 < k) where

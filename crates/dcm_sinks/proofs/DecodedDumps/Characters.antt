@@ -2,8 +2,9 @@
 use Rattle.std.proofs.Common.{◌≡◌, ◌∙◌, sym, ap, refl, subst, ℕ, true, List, [], ◌++◌, Option, append-nil, append_assoc}
 use Rattle.std.specs.Prelude.{flat_map, Result, IsErr}
 use Rattle.std.specs.Io.KnownBytes.{append_known}
+use Rattle.dcm_lemmas.proofs.Options.{known_nothing, known_twice}
 use Rattle.dcm_devices.specs.Device.{AppendsFront, Puts}
-use Rattle.dcm_devices.proofs.Writes.Puts.{append_known_twice, append_known_none, puts_behind, puts_err, front_longer}
+use Rattle.dcm_devices.proofs.Writes.Puts.{puts_behind, puts_err, front_longer}
 use Rattle.dcm_text.specs.declared.set.TextKind.{TextKind}
 use Rattle.dcm_text.specs.declared.sets.Sets.{Sets}
 use Rattle.dcm_text.specs.Decoding.{Piece}
@@ -19,13 +20,13 @@ pub record TextSoFar (old now : Option (List ℕ)) (all rest : List ℕ) : Type 
   pub grown : now ≡ append_known old first
 
 pub text_none : (old : Option (List ℕ)) (all : List ℕ) → TextSoFar old old all all
-text_none old all = record { first = []; whole = refl; grown = sym (append_known_none old) }
+text_none old all = record { first = []; whole = refl; grown = sym (known_nothing old) }
 
 pub text_more : {old mid : Option (List ℕ)} {all rest : List ℕ} (new : Option (List ℕ)) (more after : List ℕ) → TextSoFar old mid all rest → rest ≡ more ++ after → new ≡ append_known mid more → TextSoFar old new all after
 text_more {old} {mid} {all} {rest} new more after s e g = record {
   first = s.first ++ more;
   whole = s.whole ∙ ap (λ (x : List ℕ). s.first ++ x) e ∙ sym (append_assoc s.first more after);
-  grown = g ∙ ap (λ (k : Option (List ℕ)). append_known k more) s.grown ∙ append_known_twice old s.first more;
+  grown = g ∙ ap (λ (k : Option (List ℕ)). append_known k more) s.grown ∙ known_twice old s.first more;
 }
 
 -- the next of them broke off

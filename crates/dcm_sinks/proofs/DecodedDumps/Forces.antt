@@ -1,5 +1,5 @@
 -- What is in force, over the bytes of a value.
-use Rattle.std.proofs.Common.{◌≡◌, ◌∙◌, ap, sym, refl, ℕ, List, [], ◌∷◌, ◌++◌, map, Option, Some, None, Bool, false, ◌&&◌}
+use Rattle.std.proofs.Common.{◌≡◌, ◌∙◌, ap, sym, refl, ℕ, List, [], ◌∷◌, ◌++◌, map, Option, Some, None, Bool, false, ◌&&◌, ◌||◌}
 use Rattle.std.specs.Prelude.{fold, option_map}
 use Rattle.dcm_base.specs.declared.tag.Tag.{Tag}
 use Rattle.dcm_base.specs.declared.vr.Vr.{Vr}
@@ -11,7 +11,7 @@ use Rattle.dcm_base.specs.Steps.Atoms.{opens, value_byte, closes_leaf}
 use Rattle.dcm_head.specs.declared.head.Head.{Head}
 use Rattle.dcm_stream.specs.Tokens.{whole_atoms}
 use Rattle.dcm_sinks.specs.InForce.{is_character_set, may_set}
-use Rattle.dcm_sinks.specs.SettingValue.{ForceState, force_step, with_setting, with_setting_byte, sets_with, opens_setting, setting_opened}
+use Rattle.dcm_sinks.specs.SettingValue.{ForceState, force_step, names_unknown, with_setting, with_setting_byte, sets_with, opens_setting, setting_opened}
 
 abbrev pub kept : List ℕ → Option (List ℕ) → Option (List ℕ)
 kept v o = option_map (λ (value : List ℕ). fold with_setting_byte value v) o
@@ -31,7 +31,7 @@ adds f (b ∷ v) = ap (with_setting f) (kept_more b v f.setting) ∙ adds (force
 -- ---- an element whose value is whole
 
 abbrev pub behind : ForceState → Option (List ℕ) → ForceState
-behind f o = record { sets = sets_with o f.sets; around = f.around; setting = None }
+behind f o = record { sets = sets_with o f.sets; around = f.around; setting = None; unknown = names_unknown o || f.unknown }
 
 pub value_ends : (f : ForceState) (v : List ℕ) → behind f (kept v f.setting) ≡ fold force_step f (map value_byte v ++ closes_leaf ∷ [])
 value_ends f [] = ap (behind f) (kept_none f.setting)

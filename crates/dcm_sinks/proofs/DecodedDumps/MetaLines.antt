@@ -3,6 +3,7 @@ use Rattle.std.proofs.Common.{◌≡◌, ◌∙◌, ℕ, List, [], ◌∷◌, �
 use Rattle.std.specs.Prelude.{IsErr, if◌then◌else◌}
 use Rattle.std.proofs.lemmas.List.{append-nil}
 use Rattle.std.specs.Io.KnownBytes.{append_known}
+use Rattle.dcm_lemmas.proofs.Options.{known_twice}
 use Rattle.dcm_base.specs.declared.tag.Tag.{Tag}
 use Rattle.dcm_base.specs.declared.vr.Vr.{Vr}
 use Rattle.dcm_base.specs.declared.mode.Mode.{Mode}
@@ -15,7 +16,7 @@ use Rattle.dcm_base.specs.File.MetaGroup.{AreMeta}
 use Rattle.dcm_base.specs.Steps.Atoms.{Atom, opens, value_byte, closes_leaf}
 use Rattle.dcm_devices.specs.Device.{Puts, AppendsFront}
 use Rattle.dcm_base.specs.Steps.Steps.{Goes}
-use Rattle.dcm_devices.proofs.Writes.Puts.{append_known_twice, front_longer, puts_behind, puts_err}
+use Rattle.dcm_devices.proofs.Writes.Puts.{front_longer, puts_behind, puts_err}
 use Rattle.dcm_base.specs.declared.dictionary.Dictionary.{Dictionary}
 use Rattle.dcm_head.specs.Rewriting.{FirstIs, NoneIs}
 use Rattle.dcm_text.specs.declared.sets.Sets.{Sets}
@@ -101,7 +102,7 @@ left_more d mode rest all tag vr value after l first =
 
 -- with its line
 pub gone_more : (old mid new : Option (List ℕ)) (gone line : List ℕ) → mid ≡ append_known old gone → new ≡ append_known mid line → new ≡ append_known old (gone ++ line)
-gone_more old mid new gone line went one = one ∙ ap (λ (known : Option (List ℕ)). append_known known line) went ∙ append_known_twice old gone line
+gone_more old mid new gone line went one = one ∙ ap (λ (known : Option (List ℕ)). append_known known line) went ∙ known_twice old gone line
 
 -- all are gone
 pub left_none : (d : Dictionary) (mode : Mode) (rest : List ℕ) (all : Trees) → (l : Left d mode rest all) → NoneIs rest → l.gone ≡ decoded_set d mode EMPTY 0 all

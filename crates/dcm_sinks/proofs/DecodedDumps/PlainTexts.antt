@@ -3,6 +3,7 @@ use Rattle.std.proofs.Common.{◌≡◌, ◌∙◌, ap, sym, refl, ℕ, ◌+◌,
 use Rattle.std.specs.Prelude.{not, nat_lt, nat_le, codes, if◌then◌else◌}
 use Rattle.std.specs.List.{list_all}
 use Rattle.std.proofs.lemmas.Bool.{and_parts}
+use Rattle.dcm_lemmas.proofs.Truth.{implied, not_true}
 use Rattle.dcm_base.specs.declared.tag.Tag.{Tag}
 use Rattle.dcm_base.specs.declared.vr.Vr.{Vr}
 use Rattle.dcm_base.specs.declared.mode.Mode.{Mode}
@@ -37,28 +38,20 @@ use Rattle.dcm_sinks.proofs.Dumps.LineParts.{line_in_parts}
 
 -- ---- bytes that designate nothing
 
-no : (t : Bool) → not t ≡ true → t ≡ false
-no true e = absurd cc
-no false e = refl
-
 abbrev pub Plain : Sets → ℕ → Type 0
 Plain sets b = (nat_lt b 0x80 ≡ true) × (is_escape sets b ≡ false)
 
 plain_byte : (sets : Sets) (b : ℕ) → is_plain sets b ≡ true → Plain sets b
 plain_byte sets b e =
     let two = and_parts (nat_lt b 0x80) (not (is_escape sets b)) e in
-    (two.0, no (is_escape sets b) two.1)
+    (two.0, not_true (is_escape sets b) two.1)
 
 -- ---- a whole value
 
-is_ascii : (a b : Bool) → a ≡ true → (not a || b) ≡ true → b ≡ true
-is_ascii true b e f = f
-is_ascii false b e f = absurd cc
-
-line_of_ascii : (d : Dictionary) (mode : Mode) (sets : Sets) (level : ℕ) (tag : Tag) (vr : Vr) (v : List ℕ) → is_decoded vr ≡ true → is_value_of is_plain sets vr v ≡ true
+pub line_of_ascii : (d : Dictionary) (mode : Mode) (sets : Sets) (level : ℕ) (tag : Tag) (vr : Vr) (v : List ℕ) → is_decoded vr ≡ true → is_value_of is_plain sets vr v ≡ true
     → text_line d mode sets level tag vr v ≡ leaf_line d mode level tag vr v
 line_of_ascii d mode sets level tag vr v is before =
-    let same = decoded_as_before mode vr sets v is (is_ascii (is_decoded vr) (list_all (is_plain (sets_for vr sets)) (unpadded vr v)) is before) in
+    let same = decoded_as_before mode vr sets v is (implied (is_decoded vr) (list_all (is_plain (sets_for vr sets)) (unpadded vr v)) is before) in
     let start : List ℕ = line_start level tag (letters vr) in
     let n : Length = Known (length v) in
     line_in_parts d level tag (letters vr) (decoded_shortened mode (decoded_display vr sets v)) n (decoded_count vr sets v)
@@ -124,14 +117,14 @@ so_far_of_ascii sets vr size v before = by_test (is_decoded vr) refl
   where
     by_test : (t : Bool) → is_decoded vr ≡ t → (if t then decoded_so_far vr sets size v else shown_so_far (shape vr) vr size v) ≡ shown_so_far (shape vr) vr size v
     by_test true is =
-        ap (λ (z : List ℕ). cond (is_named vr size) [] (codes "[" ++ z)) (shown_plain (sets_for vr sets) (kind_of vr) v (is_ascii (is_decoded vr) (list_all (is_plain (sets_for vr sets)) v) is before))
+        ap (λ (z : List ℕ). cond (is_named vr size) [] (codes "[" ++ z)) (shown_plain (sets_for vr sets) (kind_of vr) v (implied (is_decoded vr) (list_all (is_plain (sets_for vr sets)) v) is before))
         ∙ ap (λ (x : Bool). cond x [] (codes "[" ++ escaped v)) (named_shape vr size)
         ∙ so_far_as (shape vr) vr size v is
     by_test false is = refl
 
 -- ---- data sets
 
-both_lines : (a b c d : List ℕ) → a ≡ b → c ≡ d → a ++ c ≡ b ++ d
+pub both_lines : (a b c d : List ℕ) → a ≡ b → c ≡ d → a ++ c ≡ b ++ d
 both_lines a b c d e f = ap (λ (x : List ℕ). x ++ c) e ∙ ap (λ (x : List ℕ). b ++ x) f
 
 inner_lines : (first last a b c d : List ℕ) → a ≡ b → c ≡ d → ((first ++ a) ++ last) ++ c ≡ ((first ++ b) ++ last) ++ d
@@ -182,7 +175,7 @@ low_plain : (sets : Sets) (b : ℕ) → is_low sets b ≡ true → is_plain sets
 low_plain sets b e =
     let two = and_parts (nat_lt b 0x80) (not (b == 0x1B)) e in
     let low : nat_lt b 0x80 ≡ true = two.0 in
-    let none : is_escape sets b ≡ false = ap (λ (t : Bool). t && sets.extended) (no (b == 0x1B) two.1) in
+    let none : is_escape sets b ≡ false = ap (λ (t : Bool). t && sets.extended) (not_true (b == 0x1B) two.1) in
     ap (λ (t : Bool). t && not (is_escape sets b)) low ∙ ap not none
 
 all_plain : (sets : Sets) (t : List ℕ) → list_all (is_low sets) t ≡ true → list_all (is_plain sets) t ≡ true

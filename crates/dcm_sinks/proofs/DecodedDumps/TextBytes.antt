@@ -2,11 +2,13 @@
 use Rattle.std.proofs.Common.{◌≡◌, ◌∙◌, ap, sym, refl, ℕ, ◌+◌, ◌<◌, ◌≤◌, List, [], ◌∷◌, ◌++◌, length, map, take, drop, Bool, true, false, cond, arith}
 use Rattle.std.specs.Prelude.{fold, nat_lt, min}
 use Rattle.std.proofs.lemmas.Bool.Decides.{nat_tests}
-use Rattle.std.proofs.lemmas.List.{map-append, append-nil, take-append-drop, length-take-le}
+use Rattle.std.proofs.lemmas.List.{map-append, append-nil}
 use Rattle.std.proofs.lemmas.List.Sums.{fold-append}
+use Rattle.dcm_lemmas.proofs.Lists.{taken_and_dropped}
 use Rattle.dcm_base.proofs.Writes.Runs.{outputs-append}
 use Rattle.dcm_base.specs.Steps.Atoms.{value_byte}
 use Rattle.dcm_base.specs.Steps.Steps.{outputs}
+use Rattle.dcm_sinks.proofs.Dumps.OpenValues.{fitting}
 use Rattle.dcm_text.specs.declared.sets.Sets.{Sets}
 use Rattle.dcm_value.specs.Display.{emit}
 use Rattle.dcm_value.specs.DecodedProgress.{DecodedProgress, is_unopened, opened, step, writes, feeds}
@@ -113,27 +115,19 @@ module _ (sets : Sets) (lines : DumpState) where
 
 -- ---- a piece, of which some bytes may be behind the value's end
 
-whole : (n : ℕ) (bytes own others : List ℕ) → own ≡ take n bytes → others ≡ drop n bytes → own ++ others ≡ bytes
-whole n bytes own others o r = ap (λ (front : List ℕ). front ++ others) o ∙ ap (λ (back : List ℕ). take n bytes ++ back) r ∙ take-append-drop n bytes
-
-fitting : (n missing seen size : ℕ) (bytes own : List ℕ) → n ≡ min (length bytes) missing → missing + seen ≡ size → own ≡ take n bytes → seen + length own ≤ size
-fitting n missing seen size bytes own e m o =
-    let short : length own ≡ n = ap length o ∙ length-take-le n bytes (omega arith) in
-    omega arith
-
 module _ (sets : Sets) (lines : DumpState) (owner : Owner) (p : DecodedProgress) (n missing : ℕ) (bytes own others : List ℕ)
     (least : n ≡ min (length bytes) missing) (left : missing + p.seen ≡ p.size) (front : own ≡ take n bytes) (back : others ≡ drop n bytes)
     (begun : is_unopened p ≡ false) (settled : p.display ≡ emit p.display []) (s : TextState) (now : s ≡ in_text lines owner p) where
   pub takes_piece : fold (text_step sets) s (map value_byte bytes) ≡ in_text lines owner (fold step (opened p) own)
   takes_piece =
       ap (λ (t : TextState). fold (text_step sets) t (map value_byte bytes)) now
-      ∙ ap (λ (zs : List ℕ). fold (text_step sets) (in_text lines owner p) (map value_byte zs)) (sym (whole n bytes own others front back))
+      ∙ ap (λ (zs : List ℕ). fold (text_step sets) (in_text lines owner p) (map value_byte zs)) (sym (taken_and_dropped n bytes own others front back))
       ∙ takes_own sets lines owner p own others (fitting n missing p.seen p.size bytes own least left front) (filled_full n missing p.seen p.size bytes own others least left front back)
       ∙ ap (λ (q : DecodedProgress). in_text lines owner (fold step q own)) (sym (opened_same p begun settled))
 
   pub shows_piece : outputs (text_step sets) (text_writes sets) s (map value_byte bytes) ≡ feeds p own
   shows_piece =
       ap (λ (t : TextState). outputs (text_step sets) (text_writes sets) t (map value_byte bytes)) now
-      ∙ ap (λ (zs : List ℕ). outputs (text_step sets) (text_writes sets) (in_text lines owner p) (map value_byte zs)) (sym (whole n bytes own others front back))
+      ∙ ap (λ (zs : List ℕ). outputs (text_step sets) (text_writes sets) (in_text lines owner p) (map value_byte zs)) (sym (taken_and_dropped n bytes own others front back))
       ∙ shows_own sets lines owner p own others (fitting n missing p.seen p.size bytes own least left front) (filled_full n missing p.seen p.size bytes own others least left front back)
       ∙ sym (feeds_same p own begun settled)

@@ -2,9 +2,9 @@
 use Rattle.std.proofs.Common.{◌≡◌, ◌∙◌, ap, sym, ℕ, List, ◌++◌, length, map, append_assoc, OnOk, Option, Some, None, Result, Ok, Err}
 use Rattle.std.specs.Prelude.{fold}
 use Rattle.dcm_base.specs.declared.mode.Mode.{Mode}
-use Rattle.dcm_base.specs.declared.mode.Mode.TheVariants.{Short, Full}
 use Rattle.dcm_base.specs.Steps.Atoms.{value_byte}
 use Rattle.dcm_base.specs.Steps.Steps.{outputs}
+use Rattle.dcm_sinks.proofs.Dumps.ValueLines.{around}
 use Rattle.dcm_text.specs.declared.sets.Sets.{Sets}
 use Rattle.dcm_value.specs.Display.{at_once}
 use Rattle.dcm_value.specs.DecodedProgress.{DecodedProgress, closing, closing_writes, end_writes, finishes}
@@ -29,11 +29,6 @@ pub then_ok : {T E : Type 0} {A B : Type 0} (r : Result T E) → OnOk r A → (A
 then_ok (Ok x) a f = f a
 then_ok (Err x) a f = tt
 
--- what holds in any case
-pub always : {T E : Type 0} (r : Result T E) (P : Type 0) → P → OnOk r P
-always (Ok x) P h = h
-always (Err x) P h = tt
-
 -- ---- bytes that pass
 
 pub took_passed : (sets : Sets) (lines new : DumpState) (before after : Option Owner) (p q : DecodedProgress) (bytes : List ℕ) → before ≡ None → after ≡ None
@@ -52,12 +47,6 @@ showed_passed sets lines before p bytes b =
     ∙ ap (λ (t : OpenText). outputs (text_step sets) (text_writes sets) (with_text lines t) (map value_byte bytes)) (sym (is_none before p b))
 
 -- ---- lines
-
--- what is written at once of the display comes before the rest of the line, or is nothing
-around : (mode : Mode) (start closing end rest : List ℕ)
-    → late_start mode start ++ ((at_once mode closing ++ end) ++ rest) ≡ at_once mode closing ++ ((late_start mode start ++ end) ++ rest)
-around Short start closing end rest = sym (append_assoc start end rest)
-around Full start closing end rest = append_assoc closing end rest
 
 pub closes_in_parts : (lines : DumpState) (text : OpenText) (owner : Owner) (p : DecodedProgress) → p.display.mode ≡ lines.mode → text ≡ open_text owner p
     → close_writes lines text ≡ closing_writes p ++ ((late_start lines.mode (owner_start (length lines.lengths) owner) ++ end_writes p) ++ text_rest lines.dictionary owner p)

@@ -1,9 +1,10 @@
 -- An element, whole or open, that a dump of texts takes byte by byte.
-use Rattle.std.proofs.Common.{◌≡◌, ◌∙◌, ap, sym, refl, ℕ, ◌+◌, ◌<◌, ◌≤◌, List, [], ◌∷◌, ◌++◌, length, map, append_assoc, arith, Bool, true, false, ◌||◌}
-use Rattle.std.specs.Prelude.{fold, not}
+use Rattle.std.proofs.Common.{◌≡◌, ◌∙◌, ap, sym, refl, ℕ, ◌+◌, ◌<◌, ◌≤◌, List, [], ◌∷◌, ◌++◌, length, map, append_assoc, arith, Bool, true, false}
+use Rattle.std.specs.Prelude.{fold}
 use Rattle.std.specs.List.{list_all}
 use Rattle.std.proofs.lemmas.List.{append-nil}
 use Rattle.std.proofs.lemmas.List.Sums.{fold-append}
+use Rattle.dcm_lemmas.proofs.Truth.{implied}
 use Rattle.dcm_base.proofs.Conversions.OrderLaws.{turned_bytes}
 use Rattle.dcm_base.proofs.Writes.Runs.{outputs-append}
 use Rattle.dcm_base.specs.declared.tag.Tag.{Tag}
@@ -25,9 +26,9 @@ use Rattle.dcm_base.specs.Steps.Steps.{outputs}
 use Rattle.dcm_base.specs.Tables.Representation.{letters, unit}
 use Rattle.dcm_base.specs.Tree.Value.{order, turned}
 use Rattle.dcm_head.specs.declared.head.Head.{Head}
+use Rattle.dcm_sinks.proofs.Dumps.DataSets.{open_same}
 use Rattle.dcm_stream.specs.Tokens.{whole_atoms, IsLeaf}
 use Rattle.dcm_text.specs.declared.sets.Sets.{Sets}
-use Rattle.dcm_value.specs.Display.{at_once}
 use Rattle.dcm_value.specs.DecodedDisplay.{decoded_text_of, decoded_count, decoded_display, decoded_shortened, decoded_so_far}
 use Rattle.dcm_value.specs.DecodedProgress.{DecodedProgress, started, opened, opening_writes, step, writes, feeds, finishes, multiplicity, sets_for}
 use Rattle.dcm_value.specs.Plain.{is_ascii_byte}
@@ -98,10 +99,6 @@ line_parts Full start ow outs fin rest f g =
 open_both : (mode : Mode) (start ow outs : List ℕ) → (mode ≡ Short → outs ≡ []) → open_line mode start ow ++ outs ≡ open_line mode start (ow ++ outs)
 open_both Short start ow outs g = g refl
 open_both Full start ow outs g = append_assoc start ow outs
-
-open_same : (mode : Mode) (start x : List ℕ) → open_line mode start (at_once mode x) ≡ open_line mode start x
-open_same Short start x = refl
-open_same Full start x = refl
 
 -- ---- a text
 
@@ -287,10 +284,6 @@ decodes false a_sequence vr e = absurd cc
 decodes false a_fragment_list vr e = absurd cc
 decodes false no_form vr e = absurd cc
 
-is_ascii : (a b : Bool) → a ≡ true → (not a || b) ≡ true → b ≡ true
-is_ascii true b e f = f
-is_ascii false b e f = absurd cc
-
 module _ (sets : Sets) (s : TextState) (head : Head) (syntax : Syntax) (v : List ℕ) (leaf : IsLeaf head syntax v) (before : is_as_before head.vr v ≡ true) where
   abbrev lost : Bool
   lost = s.lines.is_lost
@@ -326,7 +319,7 @@ module _ (sets : Sets) (s : TextState) (head : Head) (syntax : Syntax) (v : List
           let vr : Vr = head.vr in
           let start : List ℕ = line_start level head.tag (letters vr) in
           let is : is_decoded vr ≡ true = decodes lost shape vr e in
-          let same = decoded_as_before mode vr sets v is (text_plain (sets_for vr sets) (unpadded vr v) (is_ascii (is_decoded vr) (list_all is_ascii_byte (unpadded vr v)) is before)) in
+          let same = decoded_as_before mode vr sets v is (text_plain (sets_for vr sets) (unpadded vr v) (implied (is_decoded vr) (list_all is_ascii_byte (unpadded vr v)) is before)) in
           let text : decoded_text_of mode vr sets v ≡ text_in mode vr syntax v = same.0 ∙ sym (whole_text vr syntax mode v ∙ ap (text_of mode vr) (in_order syntax vr v is)) in
           let many : decoded_count vr sets v ≡ count_in mode vr syntax v = same.1 ∙ sym (whole_count vr syntax mode v ∙ ap (count vr) (in_order syntax vr v is)) in
           ap (λ (l : Length). text_dumps sets s (atoms l)) leaf.length_is

@@ -5,9 +5,9 @@ use Rattle.dcm_base.specs.declared.mode.Mode.{Mode}
 use Rattle.dcm_base.specs.declared.mode.Mode.TheVariants.{Short}
 use Rattle.dcm_base.specs.Steps.Steps.{outputs}
 use Rattle.dcm_value.specs.Display.{Display, emit, at_once}
-use Rattle.dcm_value.proofs.Displays.Emits.{emit_mode}
+use Rattle.dcm_value.proofs.Displays.Emits.{emit_mode, once_none}
 use Rattle.dcm_value.specs.DecodedProgress.{DecodedProgress, is_named, is_unopened, opening, opening_writes, opened, adds, step, writes, feeds}
-use Rattle.dcm_sinks.proofs.Dumps.Brackets.{still, emitted, capped, bracket, once_none}
+use Rattle.dcm_sinks.proofs.Dumps.Brackets.{still, emitted, capped, bracket}
 
 -- ---- one byte
 

@@ -2,11 +2,9 @@
 use Rattle.std.proofs.Common.{◌≡◌, ◌∙◌, ap, sym, refl, ℕ, ◌+◌, ◌≤◌, List, [], ◌∷◌, ◌++◌, length, Bool, true, false, ◌&&◌, cond, arith, eqb, eq-eqb, inr, ◌⊎◌}
 use Rattle.std.specs.Prelude.{fold, nat_lt, min, codes, ◌==◌}
 use Rattle.std.proofs.lemmas.Bool.{ne_eqb, false≢true}
-use Rattle.dcm_base.specs.declared.mode.Mode.{Mode}
-use Rattle.dcm_base.specs.declared.mode.Mode.TheVariants.{Short, Full}
 use Rattle.dcm_base.specs.Steps.Steps.{outputs}
 use Rattle.dcm_value.specs.Display.{Display, emit, at_once}
-use Rattle.dcm_value.proofs.Displays.Emits.{emit_mode}
+use Rattle.dcm_value.proofs.Displays.Emits.{emit_mode, once_none}
 use Rattle.dcm_value.specs.Progress.{Progress, way, is_bracketed, is_unopened, opening, opened, adds, step, writes, feeds}
 
 -- where a test of three is false, it stays so with more shown
@@ -64,10 +62,6 @@ no_opening p e = ap (λ (t : Bool). cond t (codes "[") []) e
 pub opened_same : (p : Progress) → is_unopened p ≡ false → p.display ≡ emit p.display [] → opened p ≡ p
 unfolding opened
 opened_same p e settled = ap (λ bytes. let q : Progress = record p { display = emit p.display bytes } in q) (no_opening p e) ∙ ap (λ (d : Display). let q : Progress = record p { display = d } in q) (sym settled)
-
-pub once_none : (mode : Mode) → at_once mode [] ≡ []
-once_none Short = refl
-once_none Full = refl
 
 -- and its bytes are shown behind it
 pub feeds_same : (p : Progress) (bytes : List ℕ) → is_unopened p ≡ false → p.display ≡ emit p.display [] → feeds p bytes ≡ outputs step writes p bytes

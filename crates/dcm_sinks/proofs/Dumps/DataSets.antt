@@ -2,6 +2,7 @@
 use Rattle.std.proofs.Common.{◌≡◌, ◌<◌, ◌≤◌, ℕ, suc, ◌+◌, List, [], ◌∷◌, ◌++◌, length, codes, ap, sym, ◌∙◌, refl, append_assoc, arith, map, flat_map, Bool, true, false, cond, Option, Some, None, subst}
 use Rattle.std.specs.Prelude.{fold, nat_lt}
 use Rattle.std.proofs.lemmas.Bool.Decides.{nat_tests}
+use Rattle.dcm_lemmas.proofs.Lists.{five_joined}
 use Rattle.dcm_base.specs.declared.tag.Tag.{Tag}
 use Rattle.dcm_base.specs.declared.vr.Vr.{Vr}
 use Rattle.dcm_base.specs.declared.vr.Vr.TheVariants.{OB}
@@ -40,9 +41,6 @@ use Rattle.dcm_sinks.proofs.Dumps.ValueRuns.{dumps, closes, stays, keeps_size}
 
 line_joined : (d : Dictionary) (level : ℕ) (t : Tag) (vr display : List ℕ) (n count : ℕ) (behind : List ℕ) → line_start level t vr ++ (padded display ++ (line_rest d t (Known n) count ++ behind)) ≡ line d level t vr display (Known n) count ++ behind
 line_joined d level t vr display n count behind = simp append_assoc
-
-pub four : (a b c d e : List ℕ) → a ++ (b ++ (c ++ (d ++ e))) ≡ (((a ++ b) ++ c) ++ d) ++ e
-four a b c d e = simp append_assoc
 
 pub open_same : (mode : Mode) (start x : List ℕ) → open_line mode start (at_once mode x) ≡ open_line mode start x
 open_same Short start x = refl
@@ -106,33 +104,36 @@ module _ (d : Dictionary) (mode : Mode) where
       ∙ sym (append_assoc (fragment_line d mode (length lengths) value) _ _)
 
   -- what a set at this level, and an item at this one, may hold
-  pub set_fits : (n : ℕ) (level : ℕ) → level ≡ n + n → suc n ≤ 64 → level < 128
+  pub set_fits : (n : ℕ) (level : ℕ) → level ≤ n + n → suc n ≤ 64 → level < 128
   set_fits n level e h = omega arith
 
-  pub items_fit : (n : ℕ) (level : ℕ) → level + 1 ≡ n + n → n ≤ 64 → level < 128
+  pub items_fit : (n : ℕ) (level : ℕ) → level + 1 ≤ n + n → n ≤ 64 → level < 128
   items_fit n level e h = omega arith
 
-  pub in_list : (n : ℕ) (declared : Length) (lengths : List Length) → length lengths ≡ n + n → length (declared ∷ lengths) + 1 ≡ suc n + suc n
-  in_list n declared lengths e = omega arith
+  pub in_list : (n : ℕ) (declared : Length) (lengths : List Length) → length lengths ≤ n + n → length (declared ∷ lengths) + 1 ≤ suc n + suc n
+  in_list n declared lengths e = omega (arith, e)
+
+  pub in_item : (n : ℕ) (declared : Length) (lengths : List Length) → length lengths + 1 ≤ n + n → length (declared ∷ lengths) ≤ n + n
+  in_item n declared lengths e = omega (arith, e)
 
   -- an opening of a sequence or fragment list, and of an item
   pub open_shallow : (n : ℕ) (atoms : List Atom) → StaysShallow n atoms → n ≤ 64
   open_shallow n atoms h = h [] atoms refl
 
-  sequence_opens : (n : ℕ) (lengths : List Length) (tag : Tag) (vr : Vr) (declared : Length) (s : Syntax) (contents : List Atom) → form s (read_as s tag vr) declared ≡ a_sequence → length lengths ≡ n + n → StaysShallow (suc n) contents
+  sequence_opens : (n : ℕ) (lengths : List Length) (tag : Tag) (vr : Vr) (declared : Length) (s : Syntax) (contents : List Atom) → form s (read_as s tag vr) declared ≡ a_sequence → length lengths ≤ n + n → StaysShallow (suc n) contents
       → dumps (between d mode lengths) (opens tag vr declared s ∷ contents) ≡ sequence_line d (length lengths) tag vr declared ++ dumps (between d mode (declared ∷ lengths)) contents
   sequence_opens n lengths tag vr declared s contents f e h =
       opening lengths (form s (read_as s tag vr) declared) a_sequence tag vr declared s contents f
       ∙ ap (λ t. sequence_line d (length lengths) tag vr declared ++ dumps t contents) (deepens lengths declared (set_fits n (length lengths) e (open_shallow (suc n) contents h)))
 
-  list_opens : (n : ℕ) (lengths : List Length) (tag : Tag) (vr : Vr) (s : Syntax) (contents : List Atom) → form s (read_as s tag vr) Undefined ≡ a_fragment_list → length lengths ≡ n + n → StaysShallow (suc n) contents
+  list_opens : (n : ℕ) (lengths : List Length) (tag : Tag) (vr : Vr) (s : Syntax) (contents : List Atom) → form s (read_as s tag vr) Undefined ≡ a_fragment_list → length lengths ≤ n + n → StaysShallow (suc n) contents
       → dumps (between d mode lengths) (opens tag vr Undefined s ∷ contents)
       ≡ line d (length lengths) tag (letters vr) (codes "(PixelSequence)") Undefined 1 ++ dumps (between d mode (Undefined ∷ lengths)) contents
   list_opens n lengths tag vr s contents f e h =
       opening lengths (form s (read_as s tag vr) Undefined) a_fragment_list tag vr Undefined s contents f
       ∙ ap (λ t. line d (length lengths) tag (letters vr) (codes "(PixelSequence)") Undefined 1 ++ dumps t contents) (deepens lengths Undefined (set_fits n (length lengths) e (open_shallow (suc n) contents h)))
 
-  item_opens : (n : ℕ) (lengths : List Length) (declared : Length) (contents : List Atom) → length lengths + 1 ≡ n + n → StaysShallow n contents
+  item_opens : (n : ℕ) (lengths : List Length) (declared : Length) (contents : List Atom) → length lengths + 1 ≤ n + n → StaysShallow n contents
       → dumps (between d mode lengths) (opens_item declared ∷ contents) ≡ item_line d (length lengths) declared ++ dumps (between d mode (declared ∷ lengths)) contents
   item_opens n lengths declared contents e h =
       ap (λ t. item_line d (length lengths) declared ++ dumps t contents) (deepens lengths declared (items_fit n (length lengths) e (open_shallow n contents h)))
@@ -140,7 +141,7 @@ module _ (d : Dictionary) (mode : Mode) where
   mutual
     unfolding ShowTrees dump_set
 
-    pub trees_dump : (n : ℕ) (lengths : List Length) (x : Trees) (atoms after : List Atom) → length lengths ≡ n + n → StaysShallow n atoms → ShowTrees x atoms after
+    pub trees_dump : (n : ℕ) (lengths : List Length) (x : Trees) (atoms after : List Atom) → length lengths ≤ n + n → StaysShallow n atoms → ShowTrees x atoms after
         → dumps (between d mode lengths) atoms ≡ dump_set d mode (length lengths) x ++ dumps (between d mode lengths) after
     trees_dump n lengths no_tree atoms after e h w = ap (dumps (between d mode lengths)) w
     trees_dump n lengths (leaf tag vr value rest) atoms after e h w =
@@ -161,7 +162,7 @@ module _ (d : Dictionary) (mode : Mode) where
         ∙ ap (λ z. first ++ z) (items_dump (suc n) (declared ∷ lengths) items w.1 (closes_sequence ∷ w.2) (in_list n declared lengths e) in_h w.5)
         ∙ ap (λ k. first ++ (dump_items d mode k items ++ (last ++ dumps (between d mode lengths) w.2))) (deeper_level declared lengths)
         ∙ ap (λ z. first ++ (dump_items d mode (level + 1) items ++ (last ++ z))) (trees_dump n lengths rest w.2 after e rest_h w.6)
-        ∙ four first (dump_items d mode (level + 1) items) last (dump_set d mode level rest) (dumps (between d mode lengths) after)
+        ∙ five_joined first (dump_items d mode (level + 1) items) last (dump_set d mode level rest) (dumps (between d mode lengths) after)
     trees_dump n lengths (fragments tag vr values rest) atoms after e h w =
         let level : ℕ = length lengths in
         let first : List ℕ = line d level tag (letters vr) (codes "(PixelSequence)") Undefined 1 in
@@ -173,9 +174,9 @@ module _ (d : Dictionary) (mode : Mode) where
         ∙ ap (λ z. first ++ z) (fragments_dump (Undefined ∷ lengths) values (closes_sequence ∷ w.1))
         ∙ ap (λ k. first ++ (flat_map (fragment_line d mode k) values ++ (last ++ dumps (between d mode lengths) w.1))) (deeper_level Undefined lengths)
         ∙ ap (λ z. first ++ (flat_map (fragment_line d mode (level + 1)) values ++ (last ++ z))) (trees_dump n lengths rest w.1 after e rest_h w.4)
-        ∙ four first (flat_map (fragment_line d mode (level + 1)) values) last (dump_set d mode level rest) (dumps (between d mode lengths) after)
+        ∙ five_joined first (flat_map (fragment_line d mode (level + 1)) values) last (dump_set d mode level rest) (dumps (between d mode lengths) after)
 
-    items_dump : (n : ℕ) (lengths : List Length) (x : Items) (atoms after : List Atom) → length lengths + 1 ≡ n + n → StaysShallow n atoms → ShowItems x atoms after
+    items_dump : (n : ℕ) (lengths : List Length) (x : Items) (atoms after : List Atom) → length lengths + 1 ≤ n + n → StaysShallow n atoms → ShowItems x atoms after
         → dumps (between d mode lengths) atoms ≡ dump_items d mode (length lengths) x ++ dumps (between d mode lengths) after
     items_dump n lengths no_item atoms after e h w = ap (dumps (between d mode lengths)) w
     items_dump n lengths (item declared set rest) atoms after e h w =
@@ -186,10 +187,10 @@ module _ (d : Dictionary) (mode : Mode) where
         let rest_h : StaysShallow n w.1 = stays_on n closes_item w.1 (stays_trees n set w.0 (closes_item ∷ w.1) w.3 in_h) in
         ap (dumps (between d mode lengths)) w.2
         ∙ item_opens n lengths declared w.0 e in_h
-        ∙ ap (λ z. first ++ z) (trees_dump n (declared ∷ lengths) set w.0 (closes_item ∷ w.1) (deeper_level declared lengths ∙ e) in_h w.3)
+        ∙ ap (λ z. first ++ z) (trees_dump n (declared ∷ lengths) set w.0 (closes_item ∷ w.1) (in_item n declared lengths e) in_h w.3)
         ∙ ap (λ k. first ++ (dump_set d mode k set ++ (last ++ dumps (between d mode lengths) w.1))) (deeper_level declared lengths)
         ∙ ap (λ z. first ++ (dump_set d mode (level + 1) set ++ (last ++ z))) (items_dump n lengths rest w.1 after e rest_h w.4)
-        ∙ four first (dump_set d mode (level + 1) set) last (dump_items d mode level rest) (dumps (between d mode lengths) after)
+        ∙ five_joined first (dump_set d mode (level + 1) set) last (dump_items d mode level rest) (dumps (between d mode lengths) after)
 
   pub fragment_open : (lengths : List Length) (last : Option (ℕ × List ℕ)) → MissesFragment last → dumps (between d mode lengths) (open_fragment_atoms last) ≡ open_fragment mode (length lengths) last
   fragment_open lengths None h = refl
@@ -206,13 +207,13 @@ module _ (d : Dictionary) (mode : Mode) where
   mutual
     unfolding Shows dump_front
 
-    pub front_dump : (n : ℕ) (lengths : List Length) (f : Front) (atoms : List Atom) → length lengths ≡ n + n → StaysShallow n atoms → Shows f atoms
+    pub front_dump : (n : ℕ) (lengths : List Length) (f : Front) (atoms : List Atom) → length lengths ≤ n + n → StaysShallow n atoms → Shows f atoms
         → dumps (between d mode lengths) atoms ≡ dump_front d mode (length lengths) f
     front_dump n lengths (front whole open_tree reached closed) atoms e h w =
         trees_dump n lengths whole atoms w.0 e h w.1
         ∙ ap (λ z. dump_set d mode (length lengths) whole ++ z) (open_dump n lengths open_tree closed w.0 e (stays_trees n whole atoms w.0 w.1 h) w.2)
 
-    pub open_dump : (n : ℕ) (lengths : List Length) (o : OpenTree) (closed : Bool) (atoms : List Atom) → length lengths ≡ n + n → StaysShallow n atoms → ShowsOpen o (end_atoms closed) atoms
+    pub open_dump : (n : ℕ) (lengths : List Length) (o : OpenTree) (closed : Bool) (atoms : List Atom) → length lengths ≤ n + n → StaysShallow n atoms → ShowsOpen o (end_atoms closed) atoms
         → dumps (between d mode lengths) atoms ≡ dump_open d mode (length lengths) o
     open_dump n lengths nothing_open closed atoms e h w = ap (dumps (between d mode lengths)) w ∙ nothing_dumps lengths closed
     open_dump n lengths (open_leaf tag vr size value) closed atoms e h w =
@@ -249,7 +250,7 @@ module _ (d : Dictionary) (mode : Mode) where
         ∙ ap (λ n. first ++ (flat_map (fragment_line d mode n) values ++ open_fragment mode n last)) (deeper_level Undefined lengths)
         ∙ sym (append_assoc first _ _)
 
-    open_item_dump : (n : ℕ) (lengths : List Length) (o : OpenItem) (atoms : List Atom) → length lengths + 1 ≡ n + n → StaysShallow n atoms → ShowsOpenItem o atoms
+    open_item_dump : (n : ℕ) (lengths : List Length) (o : OpenItem) (atoms : List Atom) → length lengths + 1 ≤ n + n → StaysShallow n atoms → ShowsOpenItem o atoms
         → dumps (between d mode lengths) atoms ≡ dump_open_item d mode (length lengths) o
     open_item_dump n lengths no_open_item atoms e h w = ap (dumps (between d mode lengths)) w
     open_item_dump n lengths (open_item declared set) atoms e h w =
@@ -257,8 +258,8 @@ module _ (d : Dictionary) (mode : Mode) where
         let in_h : StaysShallow n w.0 = stays_on n (opens_item declared) w.0 (stays_same n atoms _ w.1 h) in
         ap (dumps (between d mode lengths)) w.1
         ∙ item_opens n lengths declared w.0 e in_h
-        ∙ ap (λ z. first ++ z) (front_dump n (declared ∷ lengths) set w.0 (deeper_level declared lengths ∙ e) in_h w.3)
+        ∙ ap (λ z. first ++ z) (front_dump n (declared ∷ lengths) set w.0 (in_item n declared lengths e) in_h w.3)
         ∙ ap (λ n. first ++ dump_front d mode n set) (deeper_level declared lengths)
 
 pub dump_steps : (d : Dictionary) (mode : Mode) (f : Front) (atoms : List Atom) → StaysShallow 0 atoms → Shows f atoms → dumps (dump_start d mode) atoms ≡ dump_front d mode 0 f
-dump_steps d mode f atoms h w = front_dump d mode 0 [] f atoms refl h w
+dump_steps d mode f atoms h w = front_dump d mode 0 [] f atoms (omega arith) h w

@@ -1,7 +1,8 @@
 -- What a dump shows of the bytes of an open value, of which some may be behind its end.
-use Rattle.std.proofs.Common.{◌≡◌, ◌∙◌, ap, sym, ℕ, ◌+◌, ◌≤◌, List, [], ◌++◌, length, map, take, drop, false, arith}
+use Rattle.std.proofs.Common.{◌≡◌, ◌∙◌, ap, sym, ℕ, ◌+◌, ◌≤◌, List, [], length, map, take, drop, false, arith}
 use Rattle.std.specs.Prelude.{fold, min}
-use Rattle.std.proofs.lemmas.List.{take-append-drop, length-take-le}
+use Rattle.std.proofs.lemmas.List.{length-take-le}
+use Rattle.dcm_lemmas.proofs.Lists.{taken_and_dropped}
 use Rattle.dcm_base.specs.declared.mode.Mode.{Mode}
 use Rattle.dcm_base.specs.declared.length.Length.{Length}
 use Rattle.dcm_base.specs.Steps.Atoms.{value_byte}
@@ -15,10 +16,7 @@ use Rattle.dcm_sinks.proofs.Dumps.ValueBytes.{within, behind, takes_own, shows_o
 use Rattle.dcm_sinks.proofs.Dumps.Brackets.{opened_same, feeds_same}
 use Rattle.dcm_sinks.proofs.Dumps.ValueLines.{filled_full}
 
-whole : (n : ℕ) (bytes own others : List ℕ) → own ≡ take n bytes → others ≡ drop n bytes → own ++ others ≡ bytes
-whole n bytes own others o r = ap (λ front. front ++ others) o ∙ ap (λ back. take n bytes ++ back) r ∙ take-append-drop n bytes
-
-fitting : (n missing seen size : ℕ) (bytes own : List ℕ) → n ≡ min (length bytes) missing → missing + seen ≡ size → own ≡ take n bytes → seen + length own ≤ size
+pub fitting : (n missing seen size : ℕ) (bytes own : List ℕ) → n ≡ min (length bytes) missing → missing + seen ≡ size → own ≡ take n bytes → seen + length own ≤ size
 fitting n missing seen size bytes own e m o =
     let short : length own ≡ n = ap length o ∙ length-take-le n bytes (omega arith) in
     omega arith
@@ -29,13 +27,13 @@ module _ (d : Dictionary) (mode : Mode) (lengths : List Length) (owner : Owner) 
   pub takes_bytes : fold dump_step s (map value_byte bytes) ≡ behind d mode lengths owner (fold step (opened p) own) others
   takes_bytes =
       ap (λ t. fold dump_step t (map value_byte bytes)) now
-      ∙ ap (λ zs. fold dump_step (within d mode lengths owner p) (map value_byte zs)) (sym (whole n bytes own others front back))
+      ∙ ap (λ zs. fold dump_step (within d mode lengths owner p) (map value_byte zs)) (sym (taken_and_dropped n bytes own others front back))
       ∙ takes_own d mode lengths owner p own others (fitting n missing p.seen p.size bytes own least left front) (filled_full n missing p.seen p.size bytes own others least left front back)
       ∙ ap (λ q. behind d mode lengths owner (fold step q own) others) (sym (opened_same p begun settled))
 
   pub shows_bytes : outputs dump_step dump_writes s (map value_byte bytes) ≡ feeds p own
   shows_bytes =
       ap (λ t. outputs dump_step dump_writes t (map value_byte bytes)) now
-      ∙ ap (λ zs. outputs dump_step dump_writes (within d mode lengths owner p) (map value_byte zs)) (sym (whole n bytes own others front back))
+      ∙ ap (λ zs. outputs dump_step dump_writes (within d mode lengths owner p) (map value_byte zs)) (sym (taken_and_dropped n bytes own others front back))
       ∙ shows_own d mode lengths owner p own others (fitting n missing p.seen p.size bytes own least left front) (filled_full n missing p.seen p.size bytes own others least left front back)
       ∙ sym (feeds_same p own begun settled)

@@ -1,5 +1,5 @@
 -- What the dump sink writes of what a machine shows.
-use Rattle.std.proofs.Common.{◌≡◌, ◌∙◌, ap, refl, ℕ, ◌≤◌, List, [], ◌++◌, false, None}
+use Rattle.std.proofs.Common.{◌≡◌, ◌∙◌, ap, refl, ℕ, ◌≤◌, List, [], ◌++◌, false, None, arith}
 use Rattle.dcm_base.specs.declared.syntax.Syntax.{Syntax}
 use Rattle.dcm_base.specs.declared.mode.Mode.{Mode}
 use Rattle.dcm_base.specs.Tree.Front.{Front, front}
@@ -39,9 +39,9 @@ read_dumps d mode s (front whole o reached closed) r =
     let w = r.spelled in
     let others : List Atom = open_atoms (after_trees s whole) o (end_atoms closed) in
     let shown = trees_shown s whole r.bytes w.0 others w.1 in
-    trees_dump d mode 0 [] whole (front_atoms s (front whole o reached closed)) others refl r.shallow shown
+    trees_dump d mode 0 [] whole (front_atoms s (front whole o reached closed)) others (omega arith) r.shallow shown
     ∙ ap (λ z. dump_set d mode 0 whole ++ z)
-    (open_dump d mode 0 [] o closed others refl (stays_trees 0 whole (front_atoms s (front whole o reached closed)) others shown r.shallow) (open_shown (after_trees s whole) o w.0 (end_atoms closed) w.2))
+    (open_dump d mode 0 [] o closed others (omega arith) (stays_trees 0 whole (front_atoms s (front whole o reached closed)) others shown r.shallow) (open_shown (after_trees s whole) o w.0 (end_atoms closed) w.2))
 
 pub reads_whole : (d : Dictionary) (mode : Mode) (s : Syntax) (start : ℕ) (bytes : List ℕ) (f : Front) (stop : Stop) → start ≤ INPUT_LIMIT → Reads no_bar s start bytes f stop
     → outputs dump_step dump_writes (dump_start d mode) (front_atoms s f) ≡ dump_front d mode 0 f

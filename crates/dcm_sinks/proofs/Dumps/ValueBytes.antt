@@ -111,7 +111,7 @@ seen_fold : (p : Progress) (bytes : List ℕ) → (fold step p bytes).seen ≡ p
 seen_fold p [] = omega arith
 seen_fold p (b ∷ bs) = omega (arith, seen_fold (step p b) bs, step_seen p b)
 
-size_fold : (p : Progress) (bytes : List ℕ) → (fold step p bytes).size ≡ p.size
+pub size_fold : (p : Progress) (bytes : List ℕ) → (fold step p bytes).size ≡ p.size
 size_fold p [] = refl
 size_fold p (b ∷ bs) = size_fold (step p b) bs ∙ step_size p b
 

@@ -38,7 +38,7 @@ pub ends_in_parts : (d : Dictionary) (mode : Mode) (level : ℕ) (value : OpenVa
 ends_in_parts d mode level value owner p is = ap (close_writes d mode level) is ∙ append_assoc (late_start mode (owner_start level owner)) (finishes p) (owner_rest d owner p)
 
 -- what is written at once of the display comes before the rest of the line, or is nothing
-around : (mode : Mode) (start closing end rest : List ℕ)
+pub around : (mode : Mode) (start closing end rest : List ℕ)
     → late_start mode start ++ ((at_once mode closing ++ end) ++ rest) ≡ at_once mode closing ++ ((late_start mode start ++ end) ++ rest)
 around Short start closing end rest = sym (append_assoc start end rest)
 around Full start closing end rest = append_assoc closing end rest

@@ -15,7 +15,7 @@ use Rattle.dcm_value.specs.Display.{emit, at_once}
 use Rattle.dcm_value.specs.Progress.{Progress, started, opening, opened, adds, step, writes, feeds, finishes}
 use Rattle.dcm_sinks.specs.declared.dump.lines.Owner.{Owner}
 use Rattle.dcm_sinks.specs.DumpSink.{DumpState, owner_start, owner_rest, late_start, begin, begin_writes, dump_step, dump_writes}
-use Rattle.dcm_sinks.proofs.Dumps.ValueBytes.{between, within, step_size, takes_all, shows_all}
+use Rattle.dcm_sinks.proofs.Dumps.ValueBytes.{between, within, takes_all, shows_all, size_fold}
 
 abbrev pub dumps : DumpState → List Atom → List ℕ
 dumps s atoms = outputs dump_step dump_writes s atoms
@@ -46,10 +46,6 @@ written_adds p (b ∷ bs) =
     ∙ ap (λ xs. at_once p.display.mode (adds p b) ++ xs) (written_adds (step p b) bs)
     ∙ ap (λ m. at_once p.display.mode (adds p b) ++ at_once m (outputs step adds (step p b) bs)) (step_mode p b)
     ∙ at_once_both p.display.mode (adds p b) (outputs step adds (step p b) bs)
-
-fold_size : (p : Progress) (bytes : List ℕ) → (fold step p bytes).size ≡ p.size
-fold_size p [] = refl
-fold_size p (b ∷ bs) = fold_size (step p b) bs ∙ step_size p b
 
 -- ---- what is opened
 
@@ -96,7 +92,7 @@ module _ (d : Dictionary) (mode : Mode) (lengths : List Length) (owner : Owner) 
   added = written_adds first v ∙ ap (λ m. at_once m (outputs step adds first v)) (opened_mode fresh)
 
   pub keeps_size : (fold step (opened (started vr syntax size mode)) v).size ≡ size
-  keeps_size = fold_size first v ∙ opened_size fresh
+  keeps_size = size_fold first v ∙ opened_size fresh
 
   -- bytes, and other atoms behind them
   goes : (others : List Atom) → dumps (within d mode lengths owner first) (map value_byte v ++ others) ≡ at_once mode (outputs step adds first v) ++ dumps (within d mode lengths owner last) others

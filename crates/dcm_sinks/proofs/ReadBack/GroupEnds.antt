@@ -1,7 +1,8 @@
 -- In little endian order no data set that is written goes on a meta group.
 use Rattle.std.proofs.Common.{◌≡◌, ◌∙◌, ap, refl, ℕ, ◌<◌, List, [], ◌∷◌, ◌++◌, flat_map, length, drop, Bool, true, false, cond, not, arith, append_assoc}
-use Rattle.std.specs.Prelude.{◌==◌, ◌&&◌, nat_lt, if◌then◌else◌}
+use Rattle.std.specs.Prelude.{◌==◌, nat_lt, if◌then◌else◌}
 use Rattle.std.specs.Int.{w16, to_le_bytes}
+use Rattle.dcm_lemmas.proofs.Truth.{neither_second}
 use Rattle.dcm_base.specs.declared.tag.Tag.{Tag}
 use Rattle.dcm_base.specs.declared.vr.Vr.{Vr}
 use Rattle.dcm_base.specs.declared.vr.Vr.TheVariants.{SQ, UN}
@@ -20,13 +21,8 @@ use Rattle.dcm_base.specs.Tables.Representation.{pad}
 use Rattle.dcm_base.specs.Conversion.Recode.{head, even, too_long, leaf_bytes, sequence_delimiter, recoded_leaf, recoded_fragment, recode_set, recode_items}
 use Rattle.dcm_sinks.proofs.ReadBack.HasRoom.{IsElement, Ready}
 
-second_false : (a b : Bool) → (not a && not b) ≡ true → b ≡ false
-second_false a false e = refl
-second_false true true e = absurd (cc)
-second_false false true e = absurd (cc)
-
 other_group : (t : Tag) → is_data t ≡ true → (t.group == 2) ≡ false
-other_group t h = second_false (t.group == 0xFFFE) (t.group == 2) h
+other_group t h = neither_second (t.group == 0xFFFE) (t.group == 2) h
 
 -- bytes that begin with another number
 other_number : (n a b : ℕ) (rest : List ℕ) → (number Little 2 (a ∷ b ∷ rest) == 2) ≡ false → group_place n (a ∷ b ∷ rest) ≡ the_end

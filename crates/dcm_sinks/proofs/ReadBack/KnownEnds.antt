@@ -3,6 +3,7 @@ use Rattle.std.proofs.Common.{◌≡◌, ℕ, zero, suc, ◌+◌, ◌≤◌, ◌
 use Rattle.std.specs.Prelude.{◌==◌, ◌&&◌, nat_lt, nat_le, fold}
 use Rattle.std.proofs.lemmas.Bool.{cases_Bool, lt-ltb, le-ltb}
 use Rattle.std.proofs.lemmas.List.Sums.{fold-append}
+use Rattle.dcm_lemmas.proofs.Options.{some_same}
 use Rattle.dcm_base.specs.declared.level.Container.{Container}
 use Rattle.dcm_base.specs.declared.tag.Tag.{Tag}
 use Rattle.dcm_base.specs.declared.vr.Vr.{Vr}
@@ -20,9 +21,9 @@ use Rattle.dcm_base.specs.Reading.Stop.{Stop, refused, HeadBar, is_empty, is_the
 use Rattle.dcm_base.specs.Reading.Reads.{INPUT_LIMIT}
 use Rattle.dcm_base.specs.Steps.Atoms.{value_byte, Atom}
 use Rattle.dcm_base.proofs.DataSets.Extend.{tag_at_extends, vr_at_extends}
-use Rattle.dcm_base.proofs.DataSets.Heads.{some_same, eight_le_head_size}
+use Rattle.dcm_base.proofs.DataSets.Heads.{eight_le_head_size}
 use Rattle.dcm_stream.specs.Reading.{Reading, Opened, element_opens, item_opens, head_opens, ends_at, closes, full_closed, settled, head_read, byte_read, read_byte, Sign, sign_reads, sign_ends, left_sign, left_levels, value_left, without_value}
-use Rattle.dcm_stream.proofs.Steps.StopsStay.{tests, element_tests, place_extends}
+use Rattle.dcm_stream.proofs.Steps.StopsStay.{tests, element_tests, place_extends, is_empty_long}
 use Rattle.dcm_stream.proofs.Heads.Stops.{FitsHead, fits_element, fits_item, fits_delimiter, Fits, place_none}
 use Rattle.dcm_stream.proofs.Heads.Opening.{JustHead, opens_element, opens_other}
 use Rattle.std.proofs.lemmas.List.{append-nil}
@@ -203,12 +204,8 @@ head_leads bar p inner outer (b ∷ t) o none just le is free =
 nothing_behind : (n : ℕ) (z : List ℕ) → [] ≡ drop n z → length z ≤ n
 nothing_behind n z e = omega (arith, ap length e, length-drop n z)
 
-is_empty_not : (z : List ℕ) → 8 ≤ length z → is_empty z ≡ false
-is_empty_not [] le = absurd (omega (arith, le))
-is_empty_not (b ∷ z) le = refl
-
-no_empty : (a : Bool) (z : List ℕ) → 8 ≤ length z → (a && is_empty z) ≡ false
-no_empty true z le = is_empty_not z le
+pub no_empty : (a : Bool) (z : List ℕ) → 8 ≤ length z → (a && is_empty z) ≡ false
+no_empty true z le = is_empty_long z le
 no_empty false z le = refl
 
 -- no test but the head's own

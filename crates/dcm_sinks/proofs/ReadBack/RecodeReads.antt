@@ -8,7 +8,7 @@ use Rattle.dcm_base.specs.declared.syntax.Syntax.{Syntax}
 use Rattle.dcm_base.specs.declared.syntax.Syntax.TheVariants.{Implicit as implicit_in, Little as little_in, Big as big_in}
 use Rattle.dcm_base.specs.Tables.Syntax.{Little}
 use Rattle.dcm_base.specs.declared.fault.Fault.{Fault}
-use Rattle.dcm_base.specs.declared.fault.Fault.TheVariants.{EndsEarly, FragmentsBarred}
+use Rattle.dcm_base.specs.declared.fault.Fault.TheVariants.{EndsEarly}
 use Rattle.dcm_base.specs.declared.length.Length.{Length}
 use Rattle.dcm_base.specs.declared.length.Length.TheVariants.{Undefined}
 use Rattle.dcm_base.specs.Tree.Tree.{Trees}
@@ -26,6 +26,7 @@ use Rattle.dcm_base.specs.Steps.Atoms.{Atom, ends, front_atoms, trees_then}
 use Rattle.dcm_base.proofs.DumpsBack.Texts.{bytes_of}
 use Rattle.dcm_base.proofs.DataSets.Whole.{trees_same, at_end_NoElement}
 use Rattle.dcm_base.proofs.DataSets.OneAnswer.{reads_once}
+use Rattle.dcm_stream.proofs.Steps.ReadsSome.{never}
 use Rattle.dcm_stream.specs.Reading.{Reading, start_of, reads_byte, read_all, read_byte, is_top, stop_at_end, finish, end_shows}
 use Rattle.dcm_stream.specs.Follows.{BarsAs}
 use Rattle.dcm_stream.proofs.Steps.Follows.{answers, follows}
@@ -45,26 +46,22 @@ use Rattle.dcm_sinks.proofs.ReadBack.Sources.{Fine, all_fine, trees_ready}
 abbrev target_atoms : Syntax → List Atom → HeadBar
 target_atoms target = λ atoms. target_heads target
 
-same_heads : (target : Syntax) (f : Front) (tag : Tag) (vr : Vr) (declared : Length) → target_heads target tag vr declared ≡ target_bar target f tag vr declared
+pub same_heads : (target : Syntax) (f : Front) (tag : Tag) (vr : Vr) (declared : Length) → target_heads target tag vr declared ≡ target_bar target f tag vr declared
 same_heads (little_in d) f tag vr declared = refl
 same_heads (implicit_in d) f tag vr declared = refl
 same_heads (big_in d) f tag vr declared = refl
 
-late : (c : Bool) → is_early_bar (cond c (Some FragmentsBarred) None) ≡ false
-late true = refl
-late false = refl
-
-never_early : (target : Syntax) (f : Front) (tag : Tag) (vr : Vr) (declared : Length) → is_early_bar (target_bar target f tag vr declared) ≡ false
+pub never_early : (target : Syntax) (f : Front) (tag : Tag) (vr : Vr) (declared : Length) → is_early_bar (target_bar target f tag vr declared) ≡ false
 never_early (little_in d) f tag vr declared = refl
-never_early (implicit_in d) f tag vr declared = late (is_fragment_form (form Little vr declared))
-never_early (big_in d) f tag vr declared = late (is_fragment_form (form Little vr declared))
+never_early (implicit_in d) f tag vr declared = never (is_fragment_form (form Little vr declared))
+never_early (big_in d) f tag vr declared = never (is_fragment_form (form Little vr declared))
 
 target_bars : (target : Syntax) → BarsAs (target_atoms target) (target_bar target)
 target_bars target = record { agree = λ f atoms w tag vr declared. same_heads target f tag vr declared; never_early = never_early target }
 
 -- ---- at an end without fault nothing is open
 
-longer : (xs : List Atom) → xs ++ ends ∷ [] ≡ xs → ⊥
+pub longer : (xs : List Atom) → xs ++ ends ∷ [] ≡ xs → ⊥
 longer xs e = omega (arith, ap length e, length-append xs (ends ∷ []))
 
 nothing_is_open : (s : Syntax) (whole : Trees) (o : OpenTree) (reached : Option Tag) (was : Bool) (atoms : List Atom) → atoms ≡ front_atoms s (front whole o reached was) → atoms ++ ends ∷ [] ≡ front_atoms s (front whole o reached true) → o ≡ nothing_open
@@ -203,7 +200,7 @@ set_recodes : (target : Syntax) (set : Trees) (reached : Option Tag) (closed : B
 unfolding recode
 set_recodes target set reached closed = append-nil (recode_set target set)
 
-whole_recodes : (target : Syntax) (set : Trees) → recode target (whole_front set) ≡ recode_set target set
+pub whole_recodes : (target : Syntax) (set : Trees) → recode target (whole_front set) ≡ recode_set target set
 whole_recodes target set = set_recodes target set (last_tag None set) true
 
 -- f is whole, and the target has room for it

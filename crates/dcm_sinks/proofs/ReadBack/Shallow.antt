@@ -23,7 +23,7 @@ use Rattle.dcm_base.specs.Reading.Reads.{INPUT_LIMIT}
 use Rattle.dcm_base.specs.Steps.Atoms.{Atom, opens, value_byte, closes_leaf, opens_item, opens_fragment, ends}
 use Rattle.dcm_stream.specs.Reading.{Reading, start_of, Opened, closing, size_of, ends_at, closes, element_opens, item_opens, head_opens, full_closed, settled, head_read, byte_read, read_byte, reads_byte, read_all, end_shows, Sign, sign_of, sign_reads, left_levels, value_left}
 use Rattle.dcm_stream.specs.Bounds.{may_hold, are_nested, IsSmall}
-use Rattle.dcm_stream.proofs.Runs.Bounds.{left_small, Small, levels_accept, stays_small, start_small}
+use Rattle.dcm_stream.proofs.Runs.Bounds.{left_small, Small, levels_accept, stays_small, start_small, no_end}
 use Rattle.dcm_stream.proofs.Steps.AfterHeads.{data_false}
 use Rattle.dcm_stream.proofs.Heads.Stops.{NeverEarly, FitsHead, fits_element, fits_item, fits_delimiter, Fits, place_none}
 use Rattle.dcm_stream.proofs.Heads.Opening.{opens_element, opens_other}
@@ -32,7 +32,7 @@ use Rattle.dcm_sinks.proofs.Dumps.OpenLists.{stays_on}
 
 -- ---- atoms, one after another
 
-shallow_none : (n : ℕ) → n ≤ 64 → StaysShallow n []
+pub shallow_none : (n : ℕ) → n ≤ 64 → StaysShallow n []
 shallow_none n h = λ first rest e. nothing_first first rest e
   where
     nothing_first : (first rest : List Atom) → [] ≡ first ++ rest → fold lists_behind n first ≤ 64
@@ -96,10 +96,6 @@ held_no_set an_item the_data_set h = absurd (cc)
 held_no_set a_sequence the_data_set h = absurd (cc)
 held_no_set a_fragment_list the_data_set h = absurd (cc)
 
-endless : (position : ℕ) (e : Option ℕ) → not (is_some e) ≡ true → ends_at position e ≡ false
-endless position None h = refl
-endless position (Some end) h = absurd (cc)
-
 depth_of : (inner : Level) (outer : List Level) → depth (inner ∷ outer) ≡ counts inner.container + depth outer
 unfolding depth
 depth_of inner outer = refl
@@ -108,7 +104,7 @@ closed_leads : (position : ℕ) (ls : List Level) → are_nested ls ≡ true →
 unfolding full_closed are_nested
 closed_leads position [] h d = absurd (cc)
 closed_leads position (inner ∷ []) h d =
-    let e = endless position inner.end_offset (and_parts (is_the_data_set inner.container) (not (is_some inner.end_offset)) h).1 in
+    let e = no_end position inner.end_offset (and_parts (is_the_data_set inner.container) (not (is_some inner.end_offset)) h).1 in
     let by = λ (x : Bool). cond {A = List Level × List Atom} x ((full_closed position []).0, closes inner.container ∷ (full_closed position []).1) (inner ∷ [], []) in
     subst (λ (x : Bool). Leads (depth (inner ∷ [])) (by x).1 (depth (by x).0)) (sym e) (leads_nowhere (depth (inner ∷ [])) d)
 closed_leads position (inner ∷ next ∷ outer) h d =

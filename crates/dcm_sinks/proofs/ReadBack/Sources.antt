@@ -2,6 +2,7 @@
 use Rattle.std.proofs.Common.{◌≡◌, ◌∙◌, ◌≢◌, ap, sym, refl, subst, ℕ, zero, suc, ◌≤◌, ◌<◌, List, [], ◌∷◌, ◌++◌, length, drop, map, Some, None, Bool, true, false, cond, arith}
 use Rattle.std.specs.Prelude.{◌==◌, slice_index}
 use Rattle.std.proofs.lemmas.Bool.{eqb-false}
+use Rattle.dcm_base.proofs.DumpsBack.Parts.{Bytes-drop}
 use Rattle.dcm_base.specs.Reading.Place.{is_data}
 use Rattle.dcm_base.specs.declared.tag.Tag.{Tag}
 use Rattle.dcm_base.specs.declared.vr.Vr.{Vr}
@@ -38,11 +39,6 @@ use Rattle.dcm_base.proofs.DataSets.Alike.{read_sequence, undefined_same}
 
 -- ---- bytes
 
-pub bytes_behind : (n : ℕ) (b : List ℕ) → Bytes b → Bytes (drop n b)
-bytes_behind zero b h = h
-bytes_behind (suc n) [] h = tt
-bytes_behind (suc n) (x ∷ b) h = bytes_behind n b h.1
-
 pub bytes_parts : (x y : List ℕ) → Bytes (x ++ y) → Bytes x × Bytes y
 bytes_parts [] y h = (tt, h)
 bytes_parts (b ∷ x) y h = let k = bytes_parts x y h.1 in ((h.0, k.0), k.1)
@@ -64,7 +60,7 @@ four_bytes (little_in d) b h = let x = a_byte b 0 h in let y = a_byte b 1 h in l
 four_bytes (big_in d) b h = let x = a_byte b 0 h in let y = a_byte b 1 h in let z = a_byte b 2 h in let w = a_byte b 3 h in omega (arith, x, y, z, w)
 
 tag_of_bytes : (s : Syntax) (b : List ℕ) → Bytes b → IsTag (tag_at s b)
-tag_of_bytes s b h = (two_bytes s b h, two_bytes s (drop 2 b) (bytes_behind 2 b h))
+tag_of_bytes s b h = (two_bytes s b h, two_bytes s (drop 2 b) (Bytes-drop 2 b h))
 
 long_by : (n m : ℕ) (e : Bool) → (n == 0xFFFFFFFF) ≡ e → n < 4294967296 → Known m ≡ cond e Undefined (Known n) → m < 0xFFFFFFFF
 long_by n m true e h k = absurd (cc)
@@ -77,17 +73,17 @@ short_known : (n m : ℕ) → n < 65536 → Known m ≡ Known n → m < 0xFFFFFF
 short_known n m h k = let same : m ≡ n = cc in omega (arith, h, same)
 
 explicit_known : (s : Syntax) (long : Bool) (b : List ℕ) (m : ℕ) → Bytes b → Known m ≡ cond long (long_length (number s 4 (drop 8 b))) (Known (number s 2 (drop 6 b))) → m < 0xFFFFFFFF
-explicit_known s true b m h e = long_known (number s 4 (drop 8 b)) m (four_bytes s (drop 8 b) (bytes_behind 8 b h)) e
-explicit_known s false b m h e = short_known (number s 2 (drop 6 b)) m (two_bytes s (drop 6 b) (bytes_behind 6 b h)) e
+explicit_known s true b m h e = long_known (number s 4 (drop 8 b)) m (four_bytes s (drop 8 b) (Bytes-drop 8 b h)) e
+explicit_known s false b m h e = short_known (number s 2 (drop 6 b)) m (two_bytes s (drop 6 b) (Bytes-drop 6 b h)) e
 
 pub length_known : (s : Syntax) (vr : Vr) (b : List ℕ) (m : ℕ) → Bytes b → Known m ≡ length_at s vr b → m < 0xFFFFFFFF
 unfolding length_at
-length_known (implicit_in d) vr b m h e = long_known (number (implicit_in d) 4 (drop 4 b)) m (four_bytes (implicit_in d) (drop 4 b) (bytes_behind 4 b h)) e
+length_known (implicit_in d) vr b m h e = long_known (number (implicit_in d) 4 (drop 4 b)) m (four_bytes (implicit_in d) (drop 4 b) (Bytes-drop 4 b h)) e
 length_known (little_in d) vr b m h e = explicit_known (little_in d) (is_long vr) b m h e
 length_known (big_in d) vr b m h e = explicit_known (big_in d) (is_long vr) b m h e
 
 pub bytes_of_head : (s : Syntax) (t : Tag) (vr : Vr) (l : Length) (b c : List ℕ) → ElementHead s t vr l b c → Bytes b → Bytes c
-bytes_of_head s t vr l b c h k = subst Bytes (sym h.after_is) (bytes_behind (head_size s vr) b k)
+bytes_of_head s t vr l b c h k = subst Bytes (sym h.after_is) (Bytes-drop (head_size s vr) b k)
 
 -- ---- forms
 
@@ -185,15 +181,15 @@ enclosed_ready s end_tag (Known size) R c e P h ready (i, ci, li, r) =
     ((ready i [] k.0 r).0, k.1)
 enclosed_ready s end_tag Undefined R c e P h ready (d, r, x) =
     let k = ready c d h r in
-    (k.0, subst Bytes (sym x.after_is) (bytes_behind 8 d k.1))
+    (k.0, subst Bytes (sym x.after_is) (Bytes-drop 8 d k.1))
 
 fragments_ready : (s : Syntax) (values : List (List ℕ)) (b p : List ℕ) (bar : HeadBar) (n : ℕ) (others : List Atom) → FragmentsAt s values b p → Bytes b → Fine bar n (fragments_then values others) → (AreShort values × Fine bar n others) × Bytes p
 unfolding FragmentsAt fragments_then
 fragments_ready s [] b p bar n others h k f = ((tt, f), subst Bytes h k)
 fragments_ready s (v ∷ values) b p bar n others (o, head, more) k f =
-    let behind : Bytes (v ++ o) = subst Bytes (sym head.after_is) (bytes_behind 8 b k) in
+    let behind : Bytes (v ++ o) = subst Bytes (sym head.after_is) (Bytes-drop 8 b k) in
     let rest = fragments_ready s values o p bar n others more (bytes_parts v o behind).1 (fine_bytes bar n v (closes_leaf ∷ fragments_then values others) f.2).2 in
-    (((long_known (number s 4 (drop 4 b)) (length v) (four_bytes s (drop 4 b) (bytes_behind 4 b k)) head.length_is, rest.0.0), rest.0.1), rest.1)
+    (((long_known (number s 4 (drop 4 b)) (length v) (four_bytes s (drop 4 b) (Bytes-drop 4 b k)) head.length_is, rest.0.0), rest.0.1), rest.1)
 
 pub element_tag : (s : Syntax) (t : Tag) (vr : Vr) (l : Length) (b c : List ℕ) → ElementHead s t vr l b c → Bytes b → IsTag t
 element_tag s t vr l b c h k = subst IsTag (sym h.tag_is) (tag_of_bytes s b k)
@@ -251,7 +247,7 @@ mutual
   items_ready target s n no_item b p others h k f = ((λ fits. tt, f), subst Bytes h k)
   items_ready target s n (item declared set rest) b p others (contents, o, head, inner, more) k f =
       let bar : HeadBar = target_heads target in
-      let held = enclosed_ready s item_end_tag declared (TreesAt s set) contents o ((FitsTarget target set → Ready target n set) × Fine bar n (closes_item ∷ items_then s rest others)) (subst Bytes (sym head.after_is) (bytes_behind 8 b k))
+      let held = enclosed_ready s item_end_tag declared (TreesAt s set) contents o ((FitsTarget target set → Ready target n set) × Fine bar n (closes_item ∷ items_then s rest others)) (subst Bytes (sym head.after_is) (Bytes-drop 8 b k))
       (λ c d kc r. trees_ready target s n set c d (closes_item ∷ items_then s rest others) r kc f.2) inner in
       let after = items_ready target s n rest o p others more held.1 held.0.1.2 in
       ((λ fits. (held.0.0 fits.0, after.0.0 fits.1), after.0.1), after.1)

@@ -2,6 +2,7 @@
 use Rattle.std.proofs.Common.{◌≡◌, ℕ, suc, ◌<◌, ◌≤◌, List, [], ◌∷◌, ◌++◌, length, map, flat_map, Bool, true, false, not, refl, sym, ap, ◌∙◌, subst, arith, append_assoc}
 use Rattle.std.specs.Prelude.{◌==◌, ◌&&◌, if◌then◌else◌, nat_lt}
 use Rattle.std.proofs.lemmas.Bool.{eqb-false, ltb-false}
+use Rattle.dcm_lemmas.proofs.Lists.{four_joined}
 use Rattle.dcm_base.specs.declared.tag.Tag.{Tag}
 use Rattle.dcm_base.specs.declared.vr.Vr.{Vr}
 use Rattle.dcm_base.specs.declared.vr.Vr.TheVariants.{SQ, UN, OB, OW}
@@ -11,7 +12,6 @@ use Rattle.dcm_base.specs.declared.length.Length.TheVariants.{Known, Undefined}
 use Rattle.dcm_base.specs.Tree.Tree.{Trees, no_tree, leaf, sequence, fragments, Items, no_item, item}
 use Rattle.dcm_base.specs.Tables.Number.{IsTag}
 use Rattle.dcm_base.specs.Tables.Tag.{item_tag, item_end_tag, sequence_end_tag}
-use Rattle.dcm_base.specs.Reading.Place.{is_data}
 use Rattle.dcm_base.specs.Tables.Dictionary.{vr_in}
 use Rattle.dcm_base.specs.Tables.Representation.{is_long, pad}
 use Rattle.dcm_base.specs.Tree.Value.{order, evened}
@@ -29,15 +29,13 @@ use Rattle.dcm_base.specs.Reading.Bars.{holds_fragments}
 use Rattle.dcm_sinks.proofs.ReadBack.HasRoom.{ready_after, IsElement, AreShort, Ready, ReadyItems}
 use Rattle.dcm_base.proofs.DataSets.Alike.{undefined_same}
 use Rattle.dcm_base.specs.Tables.Syntax.{dictionary_of}
+use Rattle.dcm_stream.proofs.Heads.PlainLeaves.{no_item as no_special}
 
 -- ---- tags
 
 data_group : (a b : Bool) → (not a && b) ≡ true → a ≡ false
 data_group false b h = refl
 data_group true b h = absurd (cc)
-
-pub no_special : (t : Tag) → is_data t ≡ true → (t.group == 0xFFFE) ≡ false
-no_special t h = data_group (t.group == 0xFFFE) (not (t.group == 0x0002)) h
 
 -- ---- heads
 
@@ -127,9 +125,6 @@ inside_target (implicit_in d) t = implicit_inside d (vr_in d t)
 inside_target (little_in d) t = refl
 inside_target (big_in d) t = refl
 
-two_parts : (a b r z : List ℕ) → ((a ++ b) ++ r) ++ z ≡ a ++ (b ++ (r ++ z))
-two_parts a b r z = append_assoc (a ++ b) r z ∙ append_assoc a b (r ++ z)
-
 three_parts : (a b c r z : List ℕ) → (((a ++ b) ++ c) ++ r) ++ z ≡ a ++ (b ++ (c ++ (r ++ z)))
 three_parts a b c r z = append_assoc ((a ++ b) ++ c) r z ∙ append_assoc (a ++ b) c (r ++ z) ∙ append_assoc a b (c ++ (r ++ z))
 
@@ -140,7 +135,7 @@ leaf_at s t vr size value h u r z more l fo head o rest = (
   r ++ z,
   ap (λ (k : ℕ). form s (read_as s t vr) (Known k)) l ∙ fo,
   subst (λ (k : ℕ). ElementHead s t vr (Known k) (((h ++ u) ++ r) ++ z) (order s vr value ++ (r ++ z))) (sym l)
-      (subst (λ (x : List ℕ). ElementHead s t vr (Known size) x (order s vr value ++ (r ++ z))) (sym (two_parts h u r z))
+      (subst (λ (x : List ℕ). ElementHead s t vr (Known size) x (order s vr value ++ (r ++ z))) (sym (four_joined h u r z))
       (subst (λ (x : List ℕ). ElementHead s t vr (Known size) (h ++ (u ++ (r ++ z))) (x ++ (r ++ z))) (sym o) (element_extends s t vr (Known size) h [] (u ++ (r ++ z)) head))),
   rest,
 )
@@ -191,7 +186,7 @@ unfolding FragmentsAt
 fragment_at s size value h r z values l head rest = (
   r ++ z,
   subst (λ (k : ℕ). ItemHead s (Known k) (((h ++ value) ++ r) ++ z) (value ++ (r ++ z))) (sym l)
-      (subst (λ (x : List ℕ). ItemHead s (Known size) x (value ++ (r ++ z))) (sym (two_parts h value r z)) (item_extends s (Known size) h [] (value ++ (r ++ z)) head)),
+      (subst (λ (x : List ℕ). ItemHead s (Known size) x (value ++ (r ++ z))) (sym (four_joined h value r z)) (item_extends s (Known size) h [] (value ++ (r ++ z)) head)),
   rest,
 )
 

@@ -30,11 +30,12 @@ use Rattle.dcm_base.specs.Reading.Bars.{is_fragment_form, target_bar, holds_frag
 use Rattle.dcm_base.specs.Steps.Atoms.{opens, opens_item, opens_fragment}
 use Rattle.dcm_base.specs.Conversion.Recode.{head, even, leaf_head, leaf_bytes, item_head, item_delimiter, sequence_delimiter, recoded_leaf, recoded_fragment, recode_set, recode_items}
 use Rattle.dcm_base.specs.Conversion.Normal.{normal, normal_items, normal_vr, normal_value, normal_sequence_vr, UnlessGroupLength}
+use Rattle.dcm_stream.proofs.Heads.PlainLeaves.{no_item as no_special}
 use Rattle.dcm_stream.specs.Reading.{value_opens, container_opens, element_opens, Sign, sign_of, sign_ends, left_sign, left_levels}
 use Rattle.dcm_base.proofs.Conversions.NormalForm.{recode_by, dropped_own, evened_size, leaf_size}
 use Rattle.dcm_base.specs.declared.dictionary.Dictionary.{Dictionary}
 use Rattle.dcm_sinks.proofs.ReadBack.HasRoom.{ready_after, IsElement, AreShort, Ready, ReadyItems}
-use Rattle.dcm_sinks.proofs.ReadBack.Written.{no_special, leaf_told, sequence_told, fragments_told, item_told, fragment_told, item_end_told, sequence_end_told, inside_target}
+use Rattle.dcm_sinks.proofs.ReadBack.Written.{leaf_told, sequence_told, fragments_told, item_told, fragment_told, item_end_told, sequence_end_told, inside_target}
 use Rattle.dcm_sinks.proofs.ReadBack.KnownEnds.{endless_left, Leads, Passes, passes_none, passes_both, Endless, value_passes, element_leads, item_leads, delimiter_passes}
 use Rattle.dcm_base.proofs.Conversions.Order.{order_twice}
 use Rattle.dcm_base.proofs.DataSets.Alike.{undefined_same}

@@ -4,8 +4,9 @@ ghost use Rattle.std.specs.Borrow.{GName};
 ghost use Rattle.dcm_sinks.specs.DecodedSink.{DecodedState, decoded_step, decoded_writes, decoded_start, bars_no_head};
 
 use crate::dump::in_force::InForce;
+use crate::dump::line_sink::LineSink;
 use crate::dump::lines::texts::TextLines;
-use dcm_base::{DeviceOut, Dictionary, Mode, Syntax, Watched, WriteFailed};
+use dcm_base::{DeviceOut, Dictionary, Mode, Syntax, Watched, WriteFailed, put_all};
 use dcm_head::Head;
 use dcm_stream::{Bar, Sink, Token};
 
@@ -32,6 +33,14 @@ impl<'w, W: DeviceOut> DecodedDumpSink<'w, W> {
             lines: TextLines::new(dictionary, mode),
             in_force: InForce::new(),
         }
+    }
+
+    /// Whether a value of Specific Character Set that is whole names what is not known: it has more than 512 bytes, or a
+    /// term that is no defined term and not empty.
+    pub fn has_unknown(&self) -> bool
+        ensures { result ≡ (state_of self.now.lines self.now.in_force).force.unknown }
+    {
+        self.in_force.has_unknown()
     }
 }
 
@@ -73,5 +82,52 @@ impl<'w, W: DeviceOut> Sink for DecodedDumpSink<'w, W> {
 
     fn accepts(&self, _head: &Head) -> Result<(), Bar> {
         Ok(())
+    }
+}
+
+impl<'w, W: DeviceOut> LineSink for DecodedDumpSink<'w, W> {
+    ghost use Rattle.dcm_sinks.specs.DecodedLines.{state_of as decoded_state_of};
+    ghost use Rattle.dcm_sinks.specs.DecodedSink.{passed_over};
+
+    ghost State = { DecodedState };
+
+    ghost state = { λ d. decoded_state_of d.lines d.in_force };
+
+    ghost step = { decoded_step };
+
+    ghost writes = { decoded_writes };
+
+    ghost over = { passed_over };
+
+    ghost contents = { λ d. W.contents d.out.now };
+
+    ghost has_failed = { λ d. W.has_failed d.out.now };
+
+    ghost Kept = { GName };
+
+    ghost kept = { λ d. d.out.ghost_name };
+
+    #[inline(always)]
+    fn show(&mut self, token: Token) -> Result<(), WriteFailed> {
+        self.take(token)
+    }
+
+    #[inline(always)]
+    fn show_whole(&mut self, head: Head, syntax: Syntax, value: &[u8]) -> Result<(), WriteFailed> {
+        self.take_whole(head, syntax, value)
+    }
+
+    #[inline(always)]
+    fn pass_over(&mut self, token: Token) {
+        self.in_force.take(token);
+    }
+
+    #[inline(always)]
+    fn pass_over_whole(&mut self, head: Head, syntax: Syntax, value: &[u8]) {
+        self.in_force.take_whole(head, syntax, value);
+    }
+
+    fn put_before(&mut self, text: &[u8]) -> Result<(), WriteFailed> {
+        put_all(self.out, text)
     }
 }

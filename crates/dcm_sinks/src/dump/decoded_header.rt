@@ -40,14 +40,34 @@ fn put_decoded_syntax<W: DeviceOut>(uid: &[u8], out: &mut Watched<W>) -> Result<
     }
 }
 
-/// Writes what comes before the lines of a data set in this transfer syntax, which is given without its pad. Its bytes
-/// from 80 on are shown by their numbers. Fails where the writer fails, which has then taken a beginning of it.
-pub fn decoded_set_header<W: DeviceOut>(uid: &[u8], out: &mut Watched<W>) -> Result<(), WriteFailed>
-    ensures { Wrote W.DeviceOut out.old out.new (spec.decoded_set_header uid.now) result }
+/// Writes the line of a transfer syntax, which is given without its pad.
+fn put_used_syntax<W: DeviceOut>(uid: &[u8], out: &mut Watched<W>) -> Result<(), WriteFailed>
+    ensures { Wrote W.DeviceOut out.old out.new (spec.used_syntax uid.now) result }
 {
-    put_all(out, b"# Dicom-Data-Set\n# Used TransferSyntax: ")?;
+    put_all(out, b"# Used TransferSyntax: ")?;
     put_decoded_syntax(uid, out)?;
     put_all(out, b"\n")
+}
+
+/// Writes what comes before the lines of a file's data set.
+fn put_set_header<W: DeviceOut>(uid: &[u8], out: &mut Watched<W>) -> Result<(), WriteFailed>
+    ensures { Wrote W.DeviceOut out.old out.new (spec.decoded_set_header uid.now) result }
+{
+    put_all(out, b"# Dicom-Data-Set\n")?;
+    put_used_syntax(uid, out)
+}
+
+/// Writes what comes before the lines of a data set alone in this transfer syntax, which is given without its pad. Its
+/// first line says that texts are shown as characters. Fails where the writer fails, which has then taken a beginning
+/// of it.
+pub fn decoded_alone_header<W: DeviceOut>(
+    uid: &[u8],
+    out: &mut Watched<W>,
+) -> Result<(), WriteFailed>
+    ensures { Wrote W.DeviceOut out.old out.new (spec.decoded_alone_header uid.now) result }
+{
+    put_all(out, b"# Dicom-Data-Set (texts in UTF-8)\n")?;
+    put_used_syntax(uid, out)
 }
 
 /// Writes the line of an element of a meta group.
@@ -83,10 +103,10 @@ fn put_decoded_elements<W: DeviceOut>(
     Ok(())
 }
 
-/// Writes what comes before the lines of a file's data set: the lines of the meta group, whose elements are called as
-/// the dictionary says, and the transfer syntax. Bytes of texts from 80 on are shown by their numbers, since a meta
-/// group has no Specific Character Set (PS3.10 7.1). Fails where the writer fails, which has then taken a beginning of
-/// it.
+/// Writes what comes before the lines of a file's data set: a line that says that texts are shown as characters, the
+/// lines of the meta group, whose elements are called as the dictionary says, and the transfer syntax. Bytes of texts
+/// from 80 on are shown by their numbers there, since a meta group has no Specific Character Set (PS3.10 7.1). Fails
+/// where the writer fails, which has then taken a beginning of it.
 pub fn decoded_dump_header<W: DeviceOut>(
     meta: &Meta,
     dictionary: Dictionary,
@@ -98,9 +118,10 @@ pub fn decoded_dump_header<W: DeviceOut>(
 {
     put_all(
         out,
-        b"# Dicom-File-Format\n\n# Dicom-Meta-Information-Header\n# Used TransferSyntax: LittleEndianExplicit\n",
+        b"# Dicom-File-Format (texts in UTF-8)\n\n\
+# Dicom-Meta-Information-Header\n# Used TransferSyntax: LittleEndianExplicit\n",
     )?;
     put_decoded_elements(meta.bytes(), dictionary, mode, out)?;
     put_all(out, b"\n")?;
-    decoded_set_header(meta.uid().as_bytes(), out)
+    put_set_header(meta.uid().as_bytes(), out)
 }

@@ -1,9 +1,8 @@
 // What comes before the lines of a data set.
-ghost use Rattle.std.specs.Prelude.{◌≤◌, ◌<◌, ◌^◌, length};
+ghost use Rattle.std.specs.Prelude.{◌≤◌, ◌<◌, ◌^◌, flat_map, length};
 ghost use Rattle.dcm_devices.specs.Writing.{Wrote};
 ghost use Rattle.dcm_base.specs.Dump.Dump.{dump_set};
 ghost use Rattle.dcm_base.specs.Dump.Header as spec;
-ghost use Rattle.dcm_base.specs.Dump.ValueText.{escaped};
 ghost use Rattle.dcm_base.specs.File.MetaGroup.{META_LIMIT};
 ghost use Rattle.dcm_base.specs.declared.dictionary.Dictionary.TheVariants.{Extract};
 ghost use Rattle.dcm_head.specs.MetaReading.{HasEnded};
@@ -16,12 +15,23 @@ use dcm_head::{Meta, MetaElement, first_element};
 use dcm_stream::{Token, take_all};
 use dcm_value::escape;
 
-/// Writes bytes of a text, escaped.
-fn put_escaped<W: DeviceOut>(out: &mut Watched<W>, text: &[u8]) -> Result<(), WriteFailed>
-    ensures { Wrote W.DeviceOut out.old out.new (escaped text.now) result }
+/// Writes a byte of a unique identifier, escaped. A closing parenthesis, which none has (PS3.5 9.1), is escaped too, so
+/// that no line of a header says that texts are shown as characters.
+fn put_identifier_byte<W: DeviceOut>(out: &mut Watched<W>, byte: u8) -> Result<(), WriteFailed>
+    ensures { Wrote W.DeviceOut out.old out.new (spec.identifier_byte byte) result }
 {
-    for byte in text {
-        put_all(out, escape(*byte).as_slice())?;
+    if byte == b')' {
+        return put_all(out, b"%29");
+    }
+    put_all(out, escape(byte).as_slice())
+}
+
+/// Writes a unique identifier.
+fn put_identifier<W: DeviceOut>(out: &mut Watched<W>, uid: &[u8]) -> Result<(), WriteFailed>
+    ensures { Wrote W.DeviceOut out.old out.new (flat_map spec.identifier_byte uid.now) result }
+{
+    for byte in uid {
+        put_identifier_byte(out, *byte)?;
     }
     Ok(())
 }
@@ -32,7 +42,7 @@ fn put_syntax<W: DeviceOut>(uid: &[u8], out: &mut Watched<W>) -> Result<(), Writ
 {
     match uid_name(uid) {
         Some(name) => put_all(out, name.as_bytes()),
-        None => put_escaped(out, uid),
+        None => put_identifier(out, uid),
     }
 }
 

@@ -15,12 +15,13 @@ use dcm_text::Sets;
 use std::marker::Model;
 
 /// What is in force, here and around each open item, and the value on its way of an element that sets it
-/// (PS3.3 C.12.1.1.2).
+/// (PS3.3 C.12.1.1.2). It also keeps whether such a value named what is not known.
 #[derive(Drop)]
 pub struct InForce {
     sets: Sets,
     outermost_first: ArrayVec<Sets, MOST_OPEN>,
     setting: Setting,
+    unknown: bool,
 }
 
 impl Model for InForce {
@@ -29,7 +30,7 @@ impl Model for InForce {
 
     ghost Value = { ForceState };
 
-    ghost view = { λ f. force_by f.sets (reverse f.outermost_first.items) f.setting };
+    ghost view = { λ f. force_by f.sets (reverse f.outermost_first.items) f.setting f.unknown };
 }
 
 /// Whether a head is that of a leaf that sets what is in force behind it.
@@ -52,7 +53,15 @@ impl InForce {
             sets: default_sets(),
             outermost_first: ArrayVec::new(),
             setting: Setting::new(),
+            unknown: false,
         }
+    }
+
+    /// Whether a value that is whole names what is not known.
+    pub fn has_unknown(&self) -> bool
+        ensures { result ≡ self.now.unknown }
+    {
+        self.unknown
     }
 
     /// By what a text is read that begins here.
@@ -95,6 +104,7 @@ impl InForce {
     fn close(&mut self)
         ensures { self.new ≡ spec.force_step self.old closes_leaf }
     {
+        self.unknown = self.setting.names_unknown() || self.unknown;
         if let Some(sets) = self.setting.sets() {
             self.sets = sets;
         }

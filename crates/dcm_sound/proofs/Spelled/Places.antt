@@ -18,6 +18,7 @@ use Rattle.dcm_base.specs.Reading.Place.{room, passes, depth, is_allowed, is_und
 use Rattle.dcm_base.specs.Reading.Stop.{refused, HeadBar, is_empty, is_the_data_set, is_fragment_list, opens_list, has_no_form, with_length, barred, element_stop, item_stop, head_stop, place_stop, first_case}
 use Rattle.dcm_base.proofs.DataSets.Extend.{element_extends, item_extends, delimiter_extends}
 use Rattle.dcm_base.proofs.DataSets.Heads.{eight_le_head_size}
+use Rattle.dcm_sinks.proofs.ReadBack.KnownEnds.{no_empty}
 use Rattle.dcm_stream.proofs.Steps.StopsStay.{tests, element_tests}
 
 -- ---- room
@@ -41,14 +42,6 @@ least_room n (Some x) None h k = h
 least_room n (Some x) (Some y) h k = omega arith
 
 -- ---- no test but the head's own
-
-is_empty_not : (z : List ℕ) → 8 ≤ length z → is_empty z ≡ false
-is_empty_not [] le = absurd (omega (arith, le))
-is_empty_not (b ∷ z) le = refl
-
-no_empty : (a : Bool) (z : List ℕ) → 8 ≤ length z → (a && is_empty z) ≡ false
-no_empty true z le = is_empty_not z le
-no_empty false z le = refl
 
 place_free : (bar : HeadBar) (inner : Level) (outer : List Level) (p : ℕ) (z : List ℕ) → passes 8 (room p (inner ∷ outer)) ≡ false → 8 ≤ length z → is_allowed inner.container inner.declared (tag_at inner.syntax z) ≡ true
     → place_stop bar inner (inner ∷ outer) p z ≡ head_stop bar inner (inner ∷ outer) p z

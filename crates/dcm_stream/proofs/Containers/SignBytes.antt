@@ -1,5 +1,7 @@
 -- How a value begins is told by its first eight bytes.
 use Rattle.std.proofs.Common.{◌≡◌, ℕ, zero, suc, ◌+◌, ◌-◌, ◌<◌, ◌≤◌, ◌%◌, ◌==◌, min, get_or, List, [], ◌∷◌, ◌++◌, length, take, Bool, true, false, if◌then◌else◌, refl, sym, ap, ◌∙◌, arith, append_assoc}
+use Rattle.dcm_lemmas.proofs.Lists.{take_none, take_twice}
+use Rattle.dcm_lemmas.proofs.Truth.{and_true}
 use Rattle.dcm_base.specs.declared.vr.Vr.{Vr}
 use Rattle.dcm_base.specs.declared.vr.Vr.TheVariants.{AT, US, SS, OW, UL, SL, FL, OF, OL, FD, OD, OV, SV, UV}
 use Rattle.dcm_base.specs.declared.syntax.Syntax.{Syntax}
@@ -7,8 +9,7 @@ use Rattle.dcm_base.specs.declared.syntax.Syntax.TheVariants.{Implicit as implic
 use Rattle.dcm_base.specs.Tables.Representation.{unit, pad}
 use Rattle.dcm_base.specs.Tree.Value.{turned, order, evened}
 use Rattle.dcm_base.specs.Bytes.Spelling.{is_one}
-use Rattle.std.specs.Prelude.{bytes_eq, ◌&&◌, OnOk, Result, Ok, Err}
-use Rattle.std.specs.Result.{IsOk}
+use Rattle.std.specs.Prelude.{bytes_eq, ◌&&◌}
 use Rattle.std.proofs.Math.Seq.{take-append-add}
 use Rattle.dcm_base.specs.Tables.Syntax.{is_big}
 use Rattle.dcm_base.proofs.Conversions.Order.{turned_cons, turned_short, turned_unit, unit_some, order_twice}
@@ -108,20 +109,10 @@ pub one_told : (s : Syntax) (vr : Vr) (value : List ℕ) → is_one vr (order s 
 one_told s vr value =
     ap (λ (x : List ℕ). bytes_eq x (1 ∷ 0 ∷ [])) (order_begins s vr (pad vr) (order s vr value) ∙ ap (begins (pad vr)) (order_twice s vr value))
 
--- bytes that are kept after bytes that were kept
-kept : (n : ℕ) (xs ys : List ℕ) → take n (take n xs ++ ys) ≡ take n (xs ++ ys)
-kept zero xs ys = refl
-kept (suc n) [] ys = refl
-kept (suc n) (x ∷ xs) ys = ap (λ (zs : List ℕ). x ∷ zs) (kept n xs ys)
-
 pub kept_more : (n : ℕ) (xs ys zs : List ℕ) → take n (take n (xs ++ ys) ++ zs) ≡ take n (xs ++ (ys ++ zs))
-kept_more n xs ys zs = kept n (xs ++ ys) zs ∙ ap (take n) (append_assoc xs ys zs)
+kept_more n xs ys zs = take_twice n (xs ++ ys) zs ∙ ap (take n) (append_assoc xs ys zs)
 
 -- ---- the bytes of one
-
-and_true : (b : Bool) → (b && true) ≡ b
-and_true true = refl
-and_true false = refl
 
 one_by : (n m : ℕ) (a b : Bool) → (n == 1) ≡ a → (m == 0) ≡ b → bytes_eq (n ∷ m ∷ []) (1 ∷ 0 ∷ []) ≡ ((n == 1) && (m == 0))
 one_by n m a b p q = ap (λ (x : Bool). (n == 1) && x) (and_true (m == 0))
@@ -129,7 +120,7 @@ one_by n m a b p q = ap (λ (x : Bool). (n == 1) && x) (and_true (m == 0))
 pub pair_is : (p a b : ℕ) (rest : List ℕ) → ((a == 1) && (b == 0)) ≡ bytes_eq (begins p (a ∷ b ∷ rest)) (1 ∷ 0 ∷ [])
 pair_is p a b rest = sym (ap (λ (x : List ℕ). bytes_eq x (1 ∷ 0 ∷ [])) (begins_two p a b rest) ∙ one_by a b (a == 1) (b == 0) refl refl)
 
-order_unturned : (s : Syntax) (vr : Vr) (v : List ℕ) → is_big s ≡ false → order s vr v ≡ v
+pub order_unturned : (s : Syntax) (vr : Vr) (v : List ℕ) → is_big s ≡ false → order s vr v ≡ v
 order_unturned (implicit_in d) vr v e = refl
 order_unturned (little_in d) vr v e = refl
 order_unturned (big_in d) vr v e = absurd cc
@@ -142,7 +133,7 @@ one_unturned p (a ∷ b ∷ rest) = turned_one p a b rest ∙ sym (begins_two p 
 is_unit_one : (k : ℕ) → 0 < k → k ≤ 1 → k ≡ 1
 is_unit_one k some le = omega arith
 
-big_order : (s : Syntax) (vr : Vr) (v : List ℕ) → is_big s ≡ true → order s vr v ≡ turned (unit vr) v
+pub big_order : (s : Syntax) (vr : Vr) (v : List ℕ) → is_big s ≡ true → order s vr v ≡ turned (unit vr) v
 big_order (implicit_in d) vr v e = absurd cc
 big_order (little_in d) vr v e = absurd cc
 big_order (big_in d) vr v e = refl
@@ -197,11 +188,7 @@ turned_is_one s vr v e some long =
     sym (ap (λ (x : List ℕ). bytes_eq x (1 ∷ 0 ∷ [])) (ap (begins (pad vr)) (big_order s vr v e) ∙ unit_ends (pad vr) vr v some long)
     ∙ one_by (get_or v (unit vr - 1) 0) (get_or v (unit vr - 2) 0) (get_or v (unit vr - 1) 0 == 1) (get_or v (unit vr - 2) 0 == 0) refl refl)
 
--- ---- the first bytes, as they are kept
-
-take_none : (n : ℕ) → take {A = ℕ} n [] ≡ []
-take_none zero = refl
-take_none (suc n) = refl
+-- ---- the first bytes, as they are take_twice
 
 take_least : (n : ℕ) (ys : List ℕ) → take (min (length ys) n) ys ≡ take n ys
 take_least zero ys = ap (λ (k : ℕ). take k ys) (let e : min (length ys) 0 ≡ 0 = omega arith in e)
@@ -213,8 +200,3 @@ pub kept_least : (xs ys : List ℕ) → length xs ≤ 8 → xs ++ take (min (len
 kept_least xs ys le =
     let all : length xs + (8 - length xs) ≡ 8 = omega arith in
     ap (λ (zs : List ℕ). xs ++ zs) (take_least (8 - length xs) ys) ∙ sym (take-append-add xs ys (8 - length xs)) ∙ ap (λ (n : ℕ). take n (xs ++ ys)) all
-
--- what holds after a call that went well
-pub went_well : {T E P : Type 0} (r : Result T E) → OnOk r P → IsOk r → P
-went_well (Ok x) h is = h
-went_well (Err e) h is = absurd (cc)

@@ -1,11 +1,11 @@
 -- PixelRepresentation changes the syntax of its data set where it ends.
 use Rattle.std.proofs.Common.{◌≡◌, ℕ, List, [], ◌∷◌, ◌++◌, take, Bool, true, false, if◌then◌else◌, Option, Some, None, refl, sym, ap, ◌∙◌}
+use Rattle.dcm_base.proofs.Conversions.NormalForm.{own_dictionary}
 use Rattle.dcm_base.specs.declared.tag.Tag.{Tag}
 use Rattle.dcm_base.specs.declared.vr.Vr.{Vr}
 use Rattle.dcm_base.specs.declared.dictionary.Dictionary.{Dictionary}
 use Rattle.dcm_base.specs.declared.dictionary.Dictionary.TheVariants.{Extract, Standard, Signed}
 use Rattle.dcm_base.specs.declared.syntax.Syntax.{Syntax}
-use Rattle.dcm_base.specs.declared.syntax.Syntax.TheVariants.{Implicit as implicit_in, Little as little_in, Big as big_in}
 use Rattle.dcm_base.specs.declared.length.Length.{Length}
 use Rattle.dcm_base.specs.declared.level.Container.{Container}
 use Rattle.dcm_base.specs.declared.level.Level.{Level}
@@ -29,11 +29,6 @@ set_then s start path whole more = ap (λ (k : Syntax). level (container_of path
 -- what is read of a value so far
 abbrev pub sign_so_far : Tag → Vr → List ℕ → Option Sign
 sign_so_far tag vr bytes = sign_reads bytes (sign_of tag vr)
-
-own_dictionary : (s : Syntax) → read_by (dictionary_of s) s ≡ s
-own_dictionary (implicit_in d) = refl
-own_dictionary (little_in d) = refl
-own_dictionary (big_in d) = refl
 
 -- the dictionary after a value that says the sign, or does not
 told_dictionary : (d : Dictionary) (tag : Tag) (vr : Vr) (value : List ℕ) (says : Bool) → says_sign tag ≡ says → dictionary_after d tag vr value ≡ (if says then if_signed (is_one vr value) d else d)

@@ -1,12 +1,12 @@
 -- Where there is room for a head, no container is full.
 use Rattle.std.proofs.Common.{◌≡◌, sym, ap, subst, refl, ℕ, ◌-◌, min, List, [], ◌∷◌, Bool, true, false, cond, Option, Some, None, Ok, arith, inl, inr}
 use Rattle.std.proofs.lemmas.Bool.{eqb-true, cases_Bool, ltb-false}
+use Rattle.dcm_lemmas.proofs.Options.{known_nothing}
 use Rattle.dcm_base.specs.declared.level.Level.{Level}
 use Rattle.dcm_base.specs.Reading.Place.{distance, least, room, passes}
 use Rattle.dcm_base.specs.Steps.Atoms.{Atom}
 use Rattle.dcm_stream.specs.Reading.{closes, ends_at, full_closed, Reading}
 use Rattle.dcm_stream.specs.declared.cursor.Cursor.{Cursor}
-use Rattle.dcm_devices.proofs.Writes.Puts.{append_known_none}
 use Rattle.dcm_stream.specs.Machine.{reading, settles, Comes}
 
 -- the room is no more than that to each end
@@ -35,4 +35,4 @@ settles_nowhere p head left h =
 module _ {S : Type 0} (step : S → Atom → S) (writes : S → Atom → List ℕ) where
   pub stays_settled : {T : Type 0} (p : Cursor) (s : S) (held : Option (List ℕ)) (x : T) → p.head.items ≡ [] → p.left ≡ 0 → passes 8 (room p.position p.levels) ≡ false → Comes step writes s held s held (reading p) (settles p) (Ok x)
   stays_settled {T} p s held x head left h =
-      subst (λ (q : Reading × List Atom). Comes {T = T} step writes s held s held (reading p) q (Ok x)) (sym (settles_nowhere p head left h)) (refl, refl, sym (append_known_none held))
+      subst (λ (q : Reading × List Atom). Comes {T = T} step writes s held s held (reading p) q (Ok x)) (sym (settles_nowhere p head left h)) (refl, refl, sym (known_nothing held))

@@ -2,6 +2,8 @@
 use Rattle.std.proofs.Common.{◌≡◌, ◌∙◌, ap, sym, refl, subst, ℕ, ◌+◌, ◌≤◌, ◌<◌, List, [], ◌∷◌, length, drop, Bool, true, false, cond, not, Option, Some, None, Result, Ok, Err, ◌⊎◌, inl, inr, arith}
 use Rattle.std.specs.Prelude.{◌==◌, ◌&&◌, ◌||◌, nat_lt, nat_le, MatchOption}
 use Rattle.std.proofs.lemmas.Bool.{le-ltb, ltb-false, cases_Bool, and_parts, or_left, or_right, lt-leb}
+use Rattle.dcm_head.proofs.Heads.Short.{no_delimiter, no_item}
+use Rattle.dcm_lemmas.proofs.Truth.{and_second_false}
 use Rattle.dcm_base.specs.declared.tag.Tag.{Tag}
 use Rattle.dcm_base.specs.declared.vr.Vr.{Vr}
 use Rattle.dcm_base.specs.declared.vr.Vr.TheVariants.{UN}
@@ -36,7 +38,7 @@ use Rattle.dcm_stream.specs.Reading.{Opened, size_of, value_opens, closes, eleme
 use Rattle.dcm_stream.specs.Judging.{OpensNothing, fault_of, shape_fault, item_fault, or_fault, element_fault, head_fault, opens_with, opened_by, OpensAs, JudgesHead, Judges}
 use Rattle.dcm_stream.proofs.Heads.Opening.{undefined_no_value}
 use Rattle.dcm_stream.proofs.Steps.AfterHeads.{data_false}
-use Rattle.dcm_stream.proofs.Steps.StopsStay.{tests, is_empty_long, and_false}
+use Rattle.dcm_stream.proofs.Steps.StopsStay.{tests, is_empty_long}
 
 -- ---- what was read
 
@@ -173,12 +175,6 @@ special an_item d tag h g i = or_left (is_item_end tag) (is_sequence_end tag) (i
 special a_sequence d tag h g i = or_right (is_item_end tag) (is_sequence_end tag) (item_by (is_item tag) (is_undefined d) (is_sequence_end tag) h i)
 special a_fragment_list d tag h g i = or_right (is_item_end tag) (is_sequence_end tag) (sym (ap (λ (x : Bool). x || is_sequence_end tag) i) ∙ h)
 
-no_item : (tag : Tag) → (tag.group == 0xFFFE) ≡ false → is_item tag ≡ false
-no_item tag g = ap (λ (x : Bool). x && (tag.element == 0xE000)) g
-
-no_delimiter : (tag : Tag) → (tag.group == 0xFFFE) ≡ false → is_delimiter tag ≡ false
-no_delimiter tag g = ap (λ (x : Bool). (x && (tag.element == 0xE00D)) || (x && (tag.element == 0xE0DD))) g
-
 pub not_allowed : (bar : HeadBar) (inner : Level) (around : List Level) (position : ℕ) (bytes : List ℕ) → passes 8 (room position around) ≡ false → 8 ≤ length bytes → is_allowed inner.container inner.declared (tag_at inner.syntax bytes) ≡ false
     → place_stop bar inner around position bytes ≡ Some (refused TagNotAllowed position)
 not_allowed bar inner around position bytes free eight e =
@@ -186,7 +182,7 @@ not_allowed bar inner around position bytes free eight e =
     let c = is_the_data_set inner.container && is_empty bytes in
     let a = is_allowed inner.container inner.declared (tag_at inner.syntax bytes) in
     ap (λ (x : Bool). tests x c (nat_lt (length bytes) 8) (not a) position (length bytes) h) free
-    ∙ ap (λ (x : Bool). tests false x (nat_lt (length bytes) 8) (not a) position (length bytes) h) (and_false _ _ (is_empty_long bytes eight))
+    ∙ ap (λ (x : Bool). tests false x (nat_lt (length bytes) 8) (not a) position (length bytes) h) (and_second_false _ _ (is_empty_long bytes eight))
     ∙ ap (λ (x : Bool). tests false false x (not a) position (length bytes) h) (le-ltb (length bytes) 8 eight)
     ∙ ap (λ (x : Bool). tests false false false (not x) position (length bytes) h) e
 
@@ -200,7 +196,7 @@ module _ (bar : HeadBar) (inner : Level) (around : List Level) (position : ℕ) 
       let c = is_the_data_set inner.container && is_empty bytes in
       let a = is_allowed inner.container inner.declared tag in
       ap (λ (x : Bool). tests x c (nat_lt (length bytes) 8) (not a) position (length bytes) h) m.room_for
-      ∙ ap (λ (x : Bool). tests false x (nat_lt (length bytes) 8) (not a) position (length bytes) h) (and_false _ _ (is_empty_long bytes m.eight))
+      ∙ ap (λ (x : Bool). tests false x (nat_lt (length bytes) 8) (not a) position (length bytes) h) (and_second_false _ _ (is_empty_long bytes m.eight))
       ∙ ap (λ (x : Bool). tests false false x (not a) position (length bytes) h) (le-ltb (length bytes) 8 m.eight)
       ∙ ap (λ (x : Bool). tests false false false (not x) position (length bytes) h) m.allowed
 

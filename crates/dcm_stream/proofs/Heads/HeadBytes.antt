@@ -2,13 +2,13 @@
 use Rattle.std.proofs.Common.{◌≡◌, ◌∙◌, sym, ap, subst, refl, ℕ, ◌+◌, ◌≤◌, ◌<◌, List, [], ◌∷◌, ◌++◌, length, Bool, true, false, cond, Option, Some, None, Result, Ok, Err}
 use Rattle.std.specs.Prelude.{nat_lt}
 use Rattle.std.proofs.lemmas.Bool.{lt-ltb}
+use Rattle.dcm_lemmas.proofs.Options.{known_nothing}
 use Rattle.dcm_base.specs.declared.level.Level.{Level}
 use Rattle.dcm_base.specs.declared.fault.Fault.{Fault}
 use Rattle.dcm_base.specs.declared.fault.Fault.TheVariants.{EndsEarly}
 use Rattle.dcm_base.specs.Steps.Atoms.{Atom}
 use Rattle.dcm_base.specs.Reading.Stop.{Stop, refused, HeadBar, innermost_stop, place_stop, is_early}
 use Rattle.dcm_base.specs.Reading.Reads.{INPUT_LIMIT}
-use Rattle.dcm_devices.proofs.Writes.Puts.{append_known_none}
 use Rattle.dcm_head.specs.declared.head.Head.{Head}
 use Rattle.dcm_stream.specs.declared.token.Bar.{Bar}
 use Rattle.dcm_stream.specs.declared.judge.Opening.{Opening}
@@ -80,7 +80,7 @@ module _ {S : Type 0} (bars : S → Head → Option Bar) (step : S → Atom → 
       ∙ ap (λ (ls : List Level). record { position = p.position; head = []; left = p.left; sign = held_sign new; levels = ls; halt = Some (refused fault p.position) }) at4
       ∙ ap (λ (sign : Option Sign). record { position = p.position; head = []; left = p.left; sign = sign; levels = p.levels; halt = Some (refused fault p.position) }) at5 in
       subst (λ (x : Halt). Feeds {T = T} bars step writes (reading p None) s held (reading new) s held (b ∷ []) (Err x)) (sym is_halt)
-      (feeds_byte bars step writes {T = T} (reading p None) s held s held (reading new) b _ (Err (Refused (record { fault = fault; at = p.position }))) at (same, refl, sym (append_known_none held)))
+      (feeds_byte bars step writes {T = T} (reading p None) s held s held (reading new) b _ (Err (Refused (record { fault = fault; at = p.position }))) at (same, refl, sym (known_nothing held)))
 
   -- more bytes are wanted
   pub feeds_waiting : {T : Type 0} (held : Option (List ℕ)) (new : Cursor) (judged : Judged) (x : T) → Judges bar inner around p.position bytes judged → judged ≡ judge.More
@@ -96,7 +96,7 @@ module _ {S : Type 0} (bars : S → Head → Option Bar) (step : S → Atom → 
       ∙ ap (λ (n : ℕ). record { position = p.position; head = bytes; left = n; sign = held_sign new; levels = new.levels; halt = None }) at3
       ∙ ap (λ (ls : List Level). record { position = p.position; head = bytes; left = p.left; sign = held_sign new; levels = ls; halt = None }) at4
       ∙ ap (λ (sign : Option Sign). record { position = p.position; head = bytes; left = p.left; sign = sign; levels = p.levels; halt = None }) at5 in
-      feeds_byte bars step writes (reading p None) s held s held (reading new) b _ (Ok x) at (same, refl, sym (append_known_none held))
+      feeds_byte bars step writes (reading p None) s held s held (reading new) b _ (Ok x) at (same, refl, sym (known_nothing held))
 
   -- something opens or ends
   pub opens_few : (judged : Judged) (opening : Opening) (size begin : ℕ) → Stands (reading p None) → Judges bar inner around p.position bytes judged → judged ≡ judge.Opens opening size → begin ≡ p.position + length bytes → length (opened_by begin around opening).levels ≤ 129

@@ -1,8 +1,9 @@
 -- What a whole head opens or closes.
-use Rattle.std.proofs.Common.{◌≡◌, ℕ, zero, suc, ◌+◌, ◌≤◌, List, [], ◌∷◌, ◌++◌, length, drop, Option, Some, None, Bool, true, false, cond, refl, sym, ap, ◌∙◌, subst, arith, length-append, length-drop, append_assoc}
+use Rattle.std.proofs.Common.{◌≡◌, ℕ, zero, suc, ◌+◌, ◌≤◌, List, [], ◌∷◌, ◌++◌, length, drop, Option, Some, None, Bool, true, false, cond, refl, sym, ap, ◌∙◌, subst, arith, length-append, append_assoc}
 use Rattle.std.specs.Prelude.{◌==◌}
 use Rattle.std.proofs.lemmas.Bool.{eqb-false}
-use Rattle.std.proofs.lemmas.List.{nil_from_length}
+use Rattle.dcm_base.proofs.Conversions.Order.{order_none}
+use Rattle.dcm_lemmas.proofs.Lists.{nothing_behind}
 use Rattle.dcm_base.specs.declared.tag.Tag.{Tag}
 use Rattle.dcm_base.specs.declared.vr.Vr.{Vr}
 use Rattle.dcm_base.specs.declared.vr.Vr.TheVariants.{SQ, UN, OB, OW}
@@ -26,7 +27,7 @@ use Rattle.dcm_base.specs.Reading.Stop.{has_no_form, with_length}
 use Rattle.dcm_base.specs.Steps.Atoms.{Atom, opens, closes_leaf, front_atoms}
 use Rattle.dcm_base.proofs.DataSets.Heads.{is_tag_true}
 use Rattle.dcm_base.proofs.DataSets.Sizes.{element_takes, trees_take}
-use Rattle.dcm_base.proofs.DataSets.Path.{then_trees, Path, plug, syntax_of, behind, Placed, Roomy, order_nil, leaf_opens, sequence_opens, fragments_open, leaf_closes}
+use Rattle.dcm_base.proofs.DataSets.Path.{then_trees, Path, plug, syntax_of, behind, Placed, Roomy, leaf_opens, sequence_opens, fragments_open, leaf_closes}
 use Rattle.dcm_base.proofs.DataSets.Levels.{begin_of, around, plug_levels, path_position}
 use Rattle.dcm_base.proofs.DataSets.Stops.{set_level}
 use Rattle.dcm_base.proofs.DataSets.Row.{leaf_opens_atoms, leaf_closes_atoms, sequence_opens_atoms}
@@ -68,7 +69,7 @@ record InSet (s : Syntax) (start : ℕ) (path : Path) (whole : Trees) (b z : Lis
   roomy : Roomy s path whole nothing_open b h z
 
 none_told : (s : Syntax) (tag : Tag) (vr : Vr) → sign_of tag vr ≡ sign_so_far tag vr (order s vr [])
-none_told s tag vr = sym (none_read tag vr) ∙ ap (sign_so_far tag vr) (sym (order_nil s vr))
+none_told s tag vr = sym (none_read tag vr) ∙ ap (sign_so_far tag vr) (sym (order_none s vr))
 
 leaf_behind : (s : Syntax) (start : ℕ) (path : Path) (whole : Trees) (b z : List ℕ) (begin : ℕ) (atoms : List Atom) (tag : Tag) (vr : Vr) (size : ℕ)
     → InSet s start path whole b z begin atoms tag vr (Known size) → form (behind s path whole) (read_as (behind s path whole) tag vr) (Known size) ≡ a_value
@@ -89,7 +90,7 @@ leaf_behind s start path whole b z begin atoms tag vr zero i fo =
       atoms_are =
           sym (append_assoc atoms (o ∷ []) (closes_leaf ∷ []))
           ∙ ap (λ (x : List Atom). (x ++ o ∷ []) ++ closes_leaf ∷ []) i.a
-          ∙ ap (λ (x : List Atom). x ++ closes_leaf ∷ []) (sym (leaf_opens_atoms s path whole tag vr 0 (order_nil (behind s path whole) vr)))
+          ∙ ap (λ (x : List Atom). x ++ closes_leaf ∷ []) (sym (leaf_opens_atoms s path whole tag vr 0 (order_none (behind s path whole) vr)))
           ∙ sym (leaf_closes_atoms s path whole tag vr 0 [] refl);
       left_is = refl;
       sign_is = refl;
@@ -104,7 +105,7 @@ leaf_behind s start path whole b z begin atoms tag vr (suc n) i fo =
       open_tree = open_leaf tag vr (suc n) [];
       placed = leaf_opens s path whole tag vr (suc n) b z i.h i.roomy fo i.head;
       levels_are = sym (plug_levels s start path whole (open_leaf tag vr (suc n) []));
-      atoms_are = ap (λ (x : List Atom). x ++ o ∷ []) i.a ∙ sym (leaf_opens_atoms s path whole tag vr (suc n) (order_nil (behind s path whole) vr));
+      atoms_are = ap (λ (x : List Atom). x ++ o ∷ []) i.a ∙ sym (leaf_opens_atoms s path whole tag vr (suc n) (order_none (behind s path whole) vr));
       left_is = (omega arith, omega arith);
       sign_is = none_told (behind s path whole) tag vr;
       fits = subst (λ (p : ℕ). passes (suc n) (room p (set_level s start path whole ∷ around s start path)) ≡ false) same
@@ -181,18 +182,15 @@ pub record JustHead (s : Syntax) (z : List ℕ) : Type 0 where
   pub other : ((tag_at s z).group == 0xFFFE) ≡ true → length z ≡ 8
   pub element : (vr : Vr) → ((tag_at s z).group == 0xFFFE) ≡ false → vr_at s z ≡ Some vr → length z ≡ head_size s vr
 
-all_dropped : (n : ℕ) (z : List ℕ) → length z ≡ n → [] ≡ drop n z
-all_dropped n z e = sym (nil_from_length (drop n z) (omega (arith, length-drop n z)))
-
 element_head : (s : Syntax) (vr : Vr) (z : List ℕ) → ((tag_at s z).group == 0xFFFE) ≡ false → vr_at s z ≡ Some vr → length z ≡ head_size s vr → ElementHead s (tag_at s z) vr (length_at s vr z) z []
 element_head s vr z g v e =
-    record { no_item = eqb-false _ _ g; head = record { tag_is = refl; vr_is = sym v; whole = omega arith; length_is = refl; after_is = all_dropped (head_size s vr) z e } }
+    record { no_item = eqb-false _ _ g; head = record { tag_is = refl; vr_is = sym v; whole = omega arith; length_is = refl; after_is = nothing_behind (head_size s vr) z e } }
 
 pub item_head : (s : Syntax) (z : List ℕ) → is_item (tag_at s z) ≡ true → length z ≡ 8 → ItemHead s (long_length (number s 4 (drop 4 z))) z []
-item_head s z i e = record { tag_is = sym (is_tag_true 0xFFFE 0xE000 (tag_at s z) i); whole = omega arith; length_is = refl; after_is = all_dropped 8 z e }
+item_head s z i e = record { tag_is = sym (is_tag_true 0xFFFE 0xE000 (tag_at s z) i); whole = omega arith; length_is = refl; after_is = nothing_behind 8 z e }
 
 pub delimiter_head : (s : Syntax) (tag : Tag) (z : List ℕ) → tag_at s z ≡ tag → length z ≡ 8 → Delimiter s tag z []
-delimiter_head s tag z i e = record { tag_is = sym i; whole = omega arith; after_is = all_dropped 8 z e }
+delimiter_head s tag z i e = record { tag_is = sym i; whole = omega arith; after_is = nothing_behind 8 z e }
 
 pub with_head : (n : ℕ) (l : Length) → n ≤ with_length n l
 with_head n (Known size) = omega arith

@@ -3,6 +3,7 @@ use Rattle.std.proofs.Common.{◌≡◌, ◌∙◌, sym, ap, subst, refl, ℕ, �
 use Rattle.std.specs.Prelude.{◌==◌}
 use Rattle.std.proofs.lemmas.Bool.{cases_Bool, ne_eqb}
 use Rattle.std.proofs.lemmas.List.{take_more, take_all, length-take-le}
+use Rattle.dcm_lemmas.proofs.Options.{some_same}
 use Rattle.dcm_base.specs.declared.tag.Tag.{Tag}
 use Rattle.dcm_base.specs.declared.vr.Vr.{Vr}
 use Rattle.dcm_base.specs.declared.length.Length.{Length}
@@ -16,7 +17,7 @@ use Rattle.dcm_base.specs.Reading.Stop.{Stop, refused, HeadBar, innermost_stop, 
 use Rattle.dcm_base.specs.Reading.Reads.{INPUT_LIMIT}
 use Rattle.dcm_base.proofs.DataSets.Between.{WholeHead}
 use Rattle.dcm_base.proofs.DataSets.Extend.{tag_at_extends, vr_at_extends, length_at_extends, number_behind_extends}
-use Rattle.dcm_base.proofs.DataSets.Heads.{some_same, eight_le_head_size}
+use Rattle.dcm_base.proofs.DataSets.Heads.{eight_le_head_size}
 use Rattle.dcm_head.specs.declared.head.Head.{Head}
 use Rattle.dcm_stream.specs.declared.token.Bar.{Bar}
 use Rattle.dcm_stream.specs.declared.judge.Opening.{Opening}

@@ -4,6 +4,7 @@ use Rattle.std.specs.Prelude.{fold}
 use Rattle.std.proofs.lemmas.List.{append-nil}
 use Rattle.std.proofs.lemmas.List.Sums.{fold-append}
 use Rattle.std.proofs.Math.Seq.{take-add}
+use Rattle.dcm_lemmas.proofs.Options.{some_same}
 use Rattle.dcm_base.specs.declared.syntax.Syntax.{Syntax}
 use Rattle.dcm_base.specs.declared.level.Level.{Level}
 use Rattle.dcm_base.specs.Bytes.Spelling.{says_sign}
@@ -29,9 +30,6 @@ use Rattle.dcm_stream.specs.Machine.{reading, Comes, Feeds, steps, steps_write, 
 use Rattle.dcm_stream.specs.Tokens.{whole_atoms}
 use Rattle.dcm_stream.proofs.Runs.Parts.{opened, in_value, feeds_value, feeds_bytes}
 use Rattle.dcm_stream.proofs.Heads.PieceHeads.{piece_opens, piece_fits}
-
-bytes_same : (xs ys : List ℕ) → Some xs ≡ Some ys → xs ≡ ys
-bytes_same xs ys e = cc
 
 module _ {S : Type 0} (bars : S → Head → Option Bar) (step : S → Atom → S) (writes : S → Atom → List ℕ) (p : Cursor) (inner : Level) (s : S) (bytes : List ℕ)
     (head : p.head.items ≡ []) (left : p.left ≡ 0) (within : p.position + length bytes ≤ INPUT_LIMIT) (is : innermost p.levels ≡ Some inner) where
@@ -76,8 +74,8 @@ module _ {S : Type 0} (bars : S → Head → Option Bar) (step : S → Atom → 
       let outs : outputs (steps bars step) (steps_write bars step writes) (reading p None, s) (take size bytes ++ v) ≡ outputs step writes s all.1 =
       outputs-append (steps bars step) (steps_write bars step writes) (reading p None, s) (take size bytes) v
       ∙ ap (λ (z : Reading × S). outputs (steps bars step) (steps_write bars step writes) (reading p None, s) (take size bytes) ++ outputs (steps bars step) (steps_write bars step writes) z v) (sym first.0)
-      ∙ ap (λ (zs : List ℕ). zs ++ outputs (steps bars step) (steps_write bars step writes) (mid, m) v) (sym (bytes_same (writes s atom ++ []) (outputs (steps bars step) (steps_write bars step writes) (reading p None, s) (take size bytes)) first.1) ∙ append-nil (writes s atom))
-      ∙ ap (λ (zs : List ℕ). writes s atom ++ zs) (sym (bytes_same (outputs step writes m q.1) (outputs (steps bars step) (steps_write bars step writes) (mid, m) v) then.1))
+      ∙ ap (λ (zs : List ℕ). zs ++ outputs (steps bars step) (steps_write bars step writes) (mid, m) v) (sym (some_same (writes s atom ++ []) (outputs (steps bars step) (steps_write bars step writes) (reading p None, s) (take size bytes)) first.1) ∙ append-nil (writes s atom))
+      ∙ ap (λ (zs : List ℕ). writes s atom ++ zs) (sym (some_same (outputs step writes m q.1) (outputs (steps bars step) (steps_write bars step writes) (mid, m) v) then.1))
       ∙ ap (λ (z : Reading × List Atom). writes s atom ++ outputs step writes m z.1) none_left in
       feeds_bytes bars step writes (reading p None) s held t holds new (take size bytes ++ v) all r folds outs c
 

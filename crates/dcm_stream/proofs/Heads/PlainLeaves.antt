@@ -84,7 +84,7 @@ plain_form d UT n e = absurd (cc)
 plain_form d UV n e = absurd (cc)
 plain_form d _ n e = refl
 
-no_item : (tag : Tag) → is_data tag ≡ true → (tag.group == 0xFFFE) ≡ false
+pub no_item : (tag : Tag) → is_data tag ≡ true → (tag.group == 0xFFFE) ≡ false
 no_item tag e = by_test (tag.group == 0xFFFE) e
   where
     by_test : (t : Bool) → (not t && not (tag.group == 0x0002)) ≡ true → t ≡ false

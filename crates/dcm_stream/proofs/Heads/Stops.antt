@@ -2,6 +2,8 @@
 use Rattle.std.proofs.Common.{◌≡◌, ℕ, ◌+◌, ◌≤◌, ◌<◌, List, [], ◌∷◌, length, drop, Option, Some, None, Bool, true, false, cond, not, ◌⊎◌, inl, inr, refl, ap, ◌∙◌, subst, arith}
 use Rattle.std.specs.Prelude.{nat_lt, nat_le, ◌==◌, ◌&&◌}
 use Rattle.std.proofs.lemmas.Bool.{ltb-true, ltb-false, lt-ltb, eqb-false}
+use Rattle.dcm_lemmas.proofs.Options.{some_same}
+use Rattle.dcm_lemmas.proofs.Truth.{and_second, not_false}
 use Rattle.dcm_base.specs.declared.tag.Tag.{Tag}
 use Rattle.dcm_base.specs.declared.vr.Vr.{Vr}
 use Rattle.dcm_base.specs.declared.syntax.Syntax.{Syntax}
@@ -17,7 +19,6 @@ use Rattle.dcm_base.specs.Bytes.Spelling.{form, read_as}
 use Rattle.dcm_base.specs.declared.level.Level.{Level}
 use Rattle.dcm_base.specs.Reading.Place.{room, passes, depth, is_allowed, is_undefined}
 use Rattle.dcm_base.specs.Reading.Stop.{Stop, complete, refused, HeadBar, first_case, is_empty, is_the_data_set, is_fragment_list, opens_list, has_no_form, with_length, barred, element_stop, item_stop, head_stop, place_stop, is_undecided, is_early_bar}
-use Rattle.dcm_base.proofs.DataSets.Heads.{some_same}
 use Rattle.dcm_base.proofs.DataSets.Between.{WholeHead}
 use Rattle.dcm_stream.proofs.Steps.StopsStay.{tests, element_tests}
 
@@ -85,10 +86,6 @@ pub record Fits (inner : Level) (around : List Level) (position : ℕ) (rest : L
   pub eight : 8 ≤ length rest
   pub allowed : is_allowed inner.container inner.declared (tag_at inner.syntax rest) ≡ true
   pub head : FitsHead inner around position rest
-
-not_false : (b : Bool) → not b ≡ false → b ≡ true
-not_false true h = refl
-not_false false h = absurd (cc)
 
 pub place_none : (bar : HeadBar) (inner : Level) (around : List Level) (position : ℕ) (rest : List ℕ) → place_stop bar inner around position rest ≡ None → Fits inner around position rest
 place_none bar inner around position rest e =
@@ -189,10 +186,6 @@ empty_small : (rest : List ℕ) → is_empty rest ≡ true → length rest < 12
 empty_small [] e = omega arith
 empty_small (b ∷ rest) e = absurd (cc)
 
-both_left : (a b : Bool) → (a && b) ≡ true → b ≡ true
-both_left true b h = h
-both_left false b h = absurd (cc)
-
 empty_not_whole : (s : Syntax) (rest : List ℕ) → is_empty rest ≡ true → WholeHead s rest → ⊥
 empty_not_whole s [] e h = omega (arith, h.eight)
 empty_not_whole s (b ∷ rest) e h = cc
@@ -206,11 +199,11 @@ place_short bar inner around position rest never e =
     record {
       room_for = k.0;
       not_whole = λ w. elim k.2 [
-        | inl x ↦ empty_not_whole inner.syntax rest (both_left _ _ x) w
+        | inl x ↦ empty_not_whole inner.syntax rest (and_second _ _ x) w
         | inr y ↦ elim y [ inl z ↦ let lt = ltb-true (length rest) 8 z in omega (arith, w.eight) | inr u ↦ lacks_not_whole inner.syntax rest (h u).1 w ]
       ];
       small = elim k.2 [
-        | inl x ↦ empty_small rest (both_left _ _ x)
+        | inl x ↦ empty_small rest (and_second _ _ x)
         | inr y ↦ elim y [ inl z ↦ let lt = ltb-true (length rest) 8 z in omega arith | inr u ↦ let lacks = (h u).1 in let le = head_size_le_12 inner.syntax lacks.1.0 in omega (arith, lacks.1.2) ]
       ];
       end_is = k.1;

@@ -4,13 +4,13 @@ use Rattle.std.specs.Prelude.{fold}
 use Rattle.std.specs.Io.KnownBytes.{append_known}
 use Rattle.std.proofs.lemmas.Bool.{cases_Bool, lt-ltb}
 use Rattle.std.proofs.lemmas.List.{append-nil}
+use Rattle.dcm_lemmas.proofs.Options.{known_nothing}
 use Rattle.dcm_base.specs.declared.level.Level.{Level}
 use Rattle.dcm_base.specs.declared.fault.Fault.{Fault}
 use Rattle.dcm_base.specs.Steps.Atoms.{Atom}
 use Rattle.dcm_base.specs.Steps.Steps.{outputs}
 use Rattle.dcm_base.specs.Reading.Stop.{Stop, refused, innermost_stop, is_early, is_undecided}
 use Rattle.dcm_base.specs.Reading.Reads.{INPUT_LIMIT}
-use Rattle.dcm_devices.proofs.Writes.Puts.{append_known_none}
 use Rattle.dcm_head.specs.declared.head.Head.{Head}
 use Rattle.dcm_stream.specs.declared.token.Bar.{Bar}
 use Rattle.dcm_stream.specs.Halts.{Halt}
@@ -66,7 +66,7 @@ module _ {S : Type 0} (bars : S → Head → Option Bar) (step : S → Atom → 
       → Feeds bars step writes (holding []) s held new s held bs (Ok x)
   feeds_held held new bs x le u e =
       let h = holds bs [] (omega arith) u in
-      (ap (λ (n : Reading). (n, s)) e ∙ sym h.0, sym (append_known_none held) ∙ ap (append_known held) (sym h.1))
+      (ap (λ (n : Reading). (n, s)) e ∙ sym h.0, sym (known_nothing held) ∙ ap (append_known held) (sym h.1))
 
   -- bytes that a head is refused at
   refused_by : (z : List ℕ) (r : Reading) (fault : Fault) (early : Bool) → is_early fault ≡ early → early ≡ false → head_read r z (Some (refused fault position)) ≡ (halted r (refused fault position), [])
@@ -105,7 +105,7 @@ module _ {S : Type 0} (bars : S → Head → Option Bar) (step : S → Atom → 
   feeds_fault T held new (b ∷ bs) fault halt some le d e is n =
       let h = refuses bs [] b fault (omega arith) d e in
       subst (λ (x : Halt). Feeds {T = T} bars step writes (holding []) s held new s held (b ∷ bs) (Err x)) (sym is)
-      (ap (λ (r : Reading). (r, s)) n ∙ sym h.0, sym (append_known_none held) ∙ ap (append_known held) (sym h.1))
+      (ap (λ (r : Reading). (r, s)) n ∙ sym h.0, sym (known_nothing held) ∙ ap (append_known held) (sym h.1))
 
   -- the bytes of a head, which more are wanted for before the last
   pub feeds_whole : {T : Type 0} (held : Option (List ℕ)) (t : S) (holds_then : Option (List ℕ)) (new : Option Stop → Reading) (bs : List ℕ) (b : ℕ) (r : Result T Halt)
@@ -115,5 +115,5 @@ module _ {S : Type 0} (bars : S → Head → Option Bar) (step : S → Atom → 
   feeds_whole held t holds_then new bs b r lt u e h =
       let front = holds bs [] (omega arith) u in
       let one = one_byte bs b lt ∙ ap (head_read (holding bs) (bs ++ b ∷ [])) e in
-      feeds_on bars step writes (holding []) s held (holding bs) s held new t holds_then bs (b ∷ []) r (sym front.0) (sym (append_known_none held) ∙ ap (append_known held) (sym front.1))
+      feeds_on bars step writes (holding []) s held (holding bs) s held new t holds_then bs (b ∷ []) r (sym front.0) (sym (known_nothing held) ∙ ap (append_known held) (sym front.1))
       (feeds_byte bars step writes (holding bs) s held t holds_then new b _ r one h)

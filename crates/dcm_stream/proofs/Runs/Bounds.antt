@@ -81,7 +81,7 @@ depth_outer : (inner : Level) (outer : List Level) → depth outer ≤ depth (in
 unfolding depth
 depth_outer inner outer = omega arith
 
-no_end : (position : ℕ) (e : Option ℕ) → not (is_some e) ≡ true → ends_at position e ≡ false
+pub no_end : (position : ℕ) (e : Option ℕ) → not (is_some e) ≡ true → ends_at position e ≡ false
 no_end position None h = refl
 no_end position (Some end) h = absurd (cc)
 

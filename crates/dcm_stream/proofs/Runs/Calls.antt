@@ -4,12 +4,12 @@ use Rattle.std.specs.Prelude.{◌==◌, is_some, ◌||◌, IsErrAnd, fold}
 use Rattle.std.proofs.lemmas.Bool.{eqb-true}
 use Rattle.std.proofs.lemmas.List.{nil_from_length}
 use Rattle.std.specs.Result.{result_err}
+use Rattle.dcm_lemmas.proofs.Options.{known_nothing}
 use Rattle.dcm_base.specs.declared.fault.Fault.{Fault}
 use Rattle.dcm_base.specs.declared.fault.Stop.{Stop as Refusal}
 use Rattle.dcm_base.specs.Steps.Atoms.{Atom}
 use Rattle.dcm_base.specs.Steps.Steps.{Goes}
 use Rattle.dcm_base.specs.Reading.Stop.{Stop, complete, refused}
-use Rattle.dcm_devices.proofs.Writes.Puts.{append_known_none}
 use Rattle.dcm_head.specs.declared.head.Head.{Head}
 use Rattle.dcm_stream.specs.declared.token.Bar.{Bar}
 use Rattle.dcm_stream.specs.declared.cursor.Cursor.{Cursor}
@@ -43,7 +43,7 @@ module _ {S : Type 0} (bars : S → Head → Option Bar) (step : S → Atom → 
 
   nowhere : (r : Reading) (s : S) (held : Option (List ℕ)) (failed : Bool) → failed ≡ false → Gone r s held r s held [] failed
   nowhere r s held true e = cc
-  nowhere r s held false e = (refl, sym (append_known_none held))
+  nowhere r s held false e = (refl, sym (known_nothing held))
 
   -- no byte
   pub gone_nowhere : (r : Reading) (failed : Bool) (p : Progress) (s : S) (held : Option (List ℕ)) → ◌≡◌ {A = Progress} (record { reading = r; failed = failed }) p → p.failed ≡ false → Gone p.reading s held r s held [] failed
@@ -116,7 +116,7 @@ module _ {S : Type 0} (step : S → Atom → S) (writes : S → Atom → List �
   silent_at : (cursor : Cursor) (halt : Option Halt) (s : S) (held : Option (List ℕ)) → is_some halt ≡ true → is_output halt ≡ false → Goes step writes s held s held (end_shows (finish (reading cursor (stop_of halt)))) (well (is_output halt))
   unfolding finish
   silent_at cursor None s held e fine = absurd (cc)
-  silent_at cursor (Some (Refused stop)) s held e fine = (refl, sym (append_known_none held))
+  silent_at cursor (Some (Refused stop)) s held e fine = (refl, sym (known_nothing held))
   silent_at cursor (Some Output) s held e fine = absurd (cc)
 
   pub still_goes : (cursor : Cursor) (halt : Option Halt) (p : Progress) (s : S) (held : Option (List ℕ)) → View cursor halt p → is_some halt ≡ true → p.failed ≡ false → Goes step writes s held s held (end_shows (finish p.reading)) (well (is_output halt))
@@ -133,7 +133,7 @@ tells_with T old mid new Output (Err x) f e h = subst (λ (y : Halt). TellsHalt 
 module _ {S : Type 0} (bars : S → Head → Option Bar) (step : S → Atom → S) (writes : S → Atom → List ℕ) where
   -- no byte
   pub fed_nothing : (p : Cursor) (s : S) (held : Option (List ℕ)) → Feeds {T = Unit {0}} bars step writes (reading p None) s held (reading p) s held [] (Ok (tt {0}))
-  fed_nothing p s held = (refl, sym (append_known_none held))
+  fed_nothing p s held = (refl, sym (known_nothing held))
 
   -- a failure is passed on
   pub fails_with : (T : Type 0) (old : Reading) (s : S) (held : Option (List ℕ)) (new : Cursor) (t : S) (holds : Option (List ℕ)) (bs : List ℕ) (halt : Halt) (r : Result (Unit {0}) Halt) → IsErrAnd r (λ x. x ≡ halt)

@@ -1,21 +1,18 @@
 -- A call halts with a fault exactly where the bytes before it and its piece are not undecided.
-use Rattle.std.proofs.Common.{◌≡◌, ◌∙◌, ap, sym, subst, ℕ, ◌≤◌, List, [], ◌++◌, Option, Some, None, true, false, inl, inr}
+use Rattle.std.proofs.Common.{◌≡◌, ◌∙◌, ap, sym, subst, ℕ, ◌≤◌, List, [], ◌++◌, Some, true, false, inl, inr}
 use Rattle.std.specs.Prelude.{◌↔◌}
 use Rattle.std.proofs.lemmas.List.{append-nil}
 use Rattle.std.proofs.lemmas.List.Sums.{fold-append}
+use Rattle.dcm_lemmas.proofs.Options.{none_or_some, some_same}
 use Rattle.dcm_base.specs.declared.syntax.Syntax.{Syntax}
 use Rattle.dcm_base.specs.declared.fault.Fault.{Fault}
 use Rattle.dcm_base.specs.Steps.Atoms.{Atom}
 use Rattle.dcm_base.specs.Reading.Reads.{INPUT_LIMIT, Reads, ended}
 use Rattle.dcm_base.specs.Reading.Stop.{Stop, refused, Bar, HeadBar, is_undecided}
-use Rattle.dcm_base.proofs.DataSets.Heads.{some_same}
 use Rattle.dcm_base.proofs.DataSets.OneAnswer.{reads_once}
 use Rattle.dcm_stream.specs.Reading.{Reading, start_of, finish, reads_byte, read_all}
 use Rattle.dcm_stream.specs.Follows.{BarsAs, GoesOn, HaltsAt, Undecided, IsRefused, RefusedHere, CallRefuses, CallTells}
 use Rattle.dcm_stream.proofs.Steps.Follows.{follows, halts_where_decided}
-
-never_both : (halt : Option Stop) (stop : Stop) → halt ≡ None → halt ≡ Some stop → ⊥
-never_both halt stop e f = let no : None ≡ Some stop = sym e ∙ f in cc
 
 module _ (bar : Bar) (s : Syntax) (start : ℕ) (p : List ℕ) (r : Reading) (atoms : List Atom) where
   -- what a machine that is halted tells
@@ -44,8 +41,8 @@ module _ (bars : List Atom → HeadBar) (bar : Bar) (same : BarsAs bars bar) (s 
       let r = (read_all bars s start p).0 in
       let going = halts_where_decided bars bar same s start p le in
       elim (follows bars bar same s start p le) [
-        | inl h ↦ ((λ x u. never_both r.halt (refused x.0 x.1) h.going x.2), (λ no. absurd (no (going.0 h.going))))
-        | inr h ↦ ((λ x u. never_both r.halt (refused h.fault h.offset) (going.1 u) h.halt_is), (λ no. (h.fault, h.offset, h.halt_is)))
+        | inl h ↦ ((λ x u. none_or_some r.halt (refused x.0 x.1) h.going x.2), (λ no. absurd (no (going.0 h.going))))
+        | inr h ↦ ((λ x u. none_or_some r.halt (refused h.fault h.offset) (going.1 u) h.halt_is), (λ no. (h.fault, h.offset, h.halt_is)))
       ]
 
   tells : (p : List ℕ) (fault : Fault) (offset : ℕ) → start ≤ INPUT_LIMIT → ((read_all bars s start p).0.halt ≡ Some (refused fault offset)) ↔ RefusedHere bar s start p fault offset
@@ -53,7 +50,7 @@ module _ (bars : List Atom → HeadBar) (bar : Bar) (same : BarsAs bars bar) (s 
       let r = (read_all bars s start p).0 in
       let atoms = (read_all bars s start p).1 in
       elim (follows bars bar same s start p le) [
-        | inl h ↦ ((λ e. absurd (never_both r.halt (refused fault offset) h.going e)), (λ x. absurd (not_refused bar s start p r atoms fault offset h x)))
+        | inl h ↦ ((λ e. absurd (none_or_some r.halt (refused fault offset) h.going e)), (λ x. absurd (not_refused bar s start p r atoms fault offset h x)))
         | inr h ↦ (
           (λ e. told_here bar s start p r atoms h fault offset (some_same (refused h.fault h.offset) (refused fault offset) (sym h.halt_is ∙ e))),
           (λ x. same_told bar s start p r atoms h fault offset x),

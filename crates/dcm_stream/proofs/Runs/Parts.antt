@@ -4,6 +4,7 @@ use Rattle.std.specs.Prelude.{fold, nat_lt, IsErrAnd}
 use Rattle.std.specs.Io.KnownBytes.{append_known}
 use Rattle.std.proofs.lemmas.Bool.{lt-ltb, le-ltb}
 use Rattle.std.proofs.lemmas.List.{append-nil}
+use Rattle.dcm_lemmas.proofs.Options.{known_nothing}
 use Rattle.dcm_base.specs.declared.level.Level.{Level}
 use Rattle.dcm_base.specs.declared.fault.Fault.TheVariants.{TooLong}
 use Rattle.dcm_base.specs.Steps.Atoms.{Atom, value_byte, closes_leaf}
@@ -12,7 +13,6 @@ use Rattle.dcm_base.specs.Steps.Steps.{outputs}
 use Rattle.dcm_base.specs.Reading.Place.{room, passes}
 use Rattle.dcm_base.specs.Reading.Stop.{Stop, refused, innermost_stop, is_undecided}
 use Rattle.dcm_base.specs.Reading.Reads.{INPUT_LIMIT}
-use Rattle.dcm_devices.proofs.Writes.Puts.{append_known_none}
 use Rattle.dcm_base.proofs.Writes.Runs.{goes_on, goes_failed}
 use Rattle.dcm_head.specs.declared.head.Head.{Head}
 use Rattle.dcm_stream.specs.declared.token.Bar.{Bar}
@@ -245,7 +245,7 @@ module _ {S : Type 0} (bars : S → Head → Option Bar) (step : S → Atom → 
       → new None ≡ in_head position (head ++ bs) sign (inner ∷ outer) → Feeds bars step writes (in_head position head sign (inner ∷ outer)) s held new s held bs (Ok x)
   feeds_head position head sign inner outer s held new bs x lt free short e = (
     ap (λ (n : Reading). (n, s)) e ∙ sym (head_steps position head sign inner outer s bs lt free short),
-    sym (append_known_none held) ∙ ap (append_known held) (sym (head_outputs position head sign inner outer s bs lt free short)),
+    sym (known_nothing held) ∙ ap (append_known held) (sym (head_outputs position head sign inner outer s bs lt free short)),
   )
 
   -- past the limit

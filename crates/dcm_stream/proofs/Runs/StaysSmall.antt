@@ -4,12 +4,12 @@ use Rattle.std.specs.Prelude.{fold, nat_lt}
 use Rattle.std.specs.Io.KnownBytes.{append_known}
 use Rattle.std.proofs.lemmas.Bool.{cases_Bool, ltb-true}
 use Rattle.std.proofs.lemmas.List.{take-append-drop}
+use Rattle.dcm_lemmas.proofs.Options.{known_nothing}
 use Rattle.dcm_base.specs.declared.fault.Fault.TheVariants.{TooLong}
 use Rattle.dcm_base.specs.Steps.Atoms.{Atom, value_byte}
 use Rattle.dcm_base.specs.Steps.Steps.{outputs}
 use Rattle.dcm_base.specs.Reading.Stop.{Stop, refused, HeadBar, innermost_stop, is_undecided}
 use Rattle.dcm_base.specs.Reading.Reads.{INPUT_LIMIT}
-use Rattle.dcm_devices.proofs.Writes.Puts.{append_known_none}
 use Rattle.dcm_base.proofs.Writes.Runs.{goes_on, goes_failed}
 use Rattle.dcm_head.specs.declared.head.Head.{Head}
 use Rattle.dcm_stream.specs.declared.token.Bar.{Bar}
@@ -121,7 +121,7 @@ module _ {S : Type 0} (bars : S → Head → Option Bar) (step : S → Atom → 
   feeds_halted T old s held new t holds xs ys (Refused stop) a =
       let r = reading new (Some (refused stop.fault stop.at)) in
       goes_on (steps bars step) (steps_write bars step writes) {T = Unit {0}} {E = Unit {0}} (old, s) held (r, t) holds (r, t) holds xs ys (Ok tt) a.0 a.1
-      (sym (halted_stays bars step writes r.position r.head r.left r.sign r.levels (refused stop.fault stop.at) t ys), sym (append_known_none holds) ∙ ap (append_known holds) (sym (halted_silent bars step writes r.position r.head r.left r.sign r.levels (refused stop.fault stop.at) t ys)))
+      (sym (halted_stays bars step writes r.position r.head r.left r.sign r.levels (refused stop.fault stop.at) t ys), sym (known_nothing holds) ∙ ap (append_known holds) (sym (halted_silent bars step writes r.position r.head r.left r.sign r.levels (refused stop.fault stop.at) t ys)))
   feeds_halted T old s held new t holds xs ys Output a =
       goes_failed (steps bars step) (steps_write bars step writes) {T = Unit {0}} {E = Unit {0}} (old, s) held (reading new None, t) holds xs ys (Err tt) refl a
 
@@ -142,7 +142,7 @@ module _ {S : Type 0} (bars : S → Head → Option Bar) (step : S → Atom → 
             ∙ ap (λ (n : ℕ). (new (Some (refused TooLong n)), s)) a
             ∙ ap (λ (n : Reading). (n, s)) e
             ∙ sym (ap (λ (q : Reading × List Atom). fold (steps bars step) (q.0, fold step s q.1) bs) byte ∙ halted_stays bars step writes r.position r.head r.left r.sign r.levels (refused TooLong INPUT_LIMIT) s bs),
-        sym (append_known_none held)
+        sym (known_nothing held)
             ∙ ap (append_known held) (sym (ap (λ (q : Reading × List Atom). outputs step writes s q.1 ++ outputs (steps bars step) (steps_write bars step writes) (q.0, fold step s q.1) bs) byte
             ∙ halted_silent bars step writes r.position r.head r.left r.sign r.levels (refused TooLong INPUT_LIMIT) s bs)),
       )

@@ -1,6 +1,7 @@
 -- Behind each whole head stands a place.
 use Rattle.std.proofs.Common.{◌≡◌, ℕ, zero, suc, ◌+◌, List, [], ◌∷◌, ◌++◌, length, drop, Some, None, Bool, true, false, not, ◌⊎◌, inl, inr, refl, sym, ap, ◌∙◌, subst, arith, length-append, append_assoc}
 use Rattle.std.specs.Prelude.{◌==◌, ◌&&◌, ◌||◌}
+use Rattle.dcm_lemmas.proofs.Truth.{or_cases}
 use Rattle.dcm_base.specs.declared.tag.Tag.{Tag}
 use Rattle.dcm_base.specs.declared.vr.Vr.{Vr}
 use Rattle.dcm_base.specs.declared.syntax.Syntax.{Syntax}
@@ -65,10 +66,6 @@ allowed_left : (a b : Bool) → (a || (false && b)) ≡ true → a ≡ true
 allowed_left true b h = refl
 allowed_left false b h = h
 
-allowed_or : (a b : Bool) → (a || b) ≡ true → (a ≡ true) ⊎ (b ≡ true)
-allowed_or true b h = inl refl
-allowed_or false b h = inr h
-
 allowed_either : (a b : Bool) → (a || (true && b)) ≡ true → (a ≡ true) ⊎ ((Undefined ≡ Undefined) × (b ≡ true))
 allowed_either true b h = inl refl
 allowed_either false b h = inr (refl, h)
@@ -81,7 +78,7 @@ list_allows Undefined tag h = allowed_either (is_item tag) (is_sequence_end tag)
 
 pub fragments_allow : (declared : Length) (tag : Tag) → is_allowed fragment_container declared tag ≡ true → (is_item tag ≡ true) ⊎ (is_sequence_end tag ≡ true)
 unfolding is_allowed
-fragments_allow declared tag h = allowed_or (is_item tag) (is_sequence_end tag) h
+fragments_allow declared tag h = or_cases (is_item tag) (is_sequence_end tag) h
 
 pub special_group : (tag : Tag) (element : ℕ) → ((tag.group == 0xFFFE) && (tag.element == element)) ≡ true → (tag.group == 0xFFFE) ≡ false → ⊥
 special_group tag element h g = let k = special_false tag element g in cc

@@ -91,7 +91,7 @@ mutual
   item_items (open_item declared set) atoms tag st (contents, at, open_set, shows) =
       ap (λ (x : List Atom). length (reach (Some tag ∷ st) x)) at ∙ (let e = front_items set contents (Some tag ∷ st) shows in omega (arith, e))
 
-never : (b : Bool) → is_early_bar (cond b None (Some NotAscending)) ≡ false
+pub never : (b : Bool) → is_early_bar (cond b None (Some NotAscending)) ≡ false
 never true = refl
 never false = refl
 

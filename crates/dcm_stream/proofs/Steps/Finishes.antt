@@ -2,12 +2,12 @@
 use Rattle.std.proofs.Common.{◌≡◌, sym, ap, subst, refl, ℕ, ◌+◌, List, [], ◌∷◌, length, Bool, true, false, cond, Option, None, Result, Ok, Err}
 use Rattle.std.specs.Prelude.{fold, IsErrAnd}
 use Rattle.std.specs.Io.KnownBytes.{append_known}
+use Rattle.dcm_lemmas.proofs.Options.{known_nothing}
 use Rattle.dcm_base.specs.declared.fault.Fault.TheVariants.{EndsEarly}
 use Rattle.dcm_base.specs.Steps.Atoms.{Atom, ends}
 use Rattle.dcm_devices.specs.Device.{AppendsFront}
 use Rattle.dcm_base.specs.Steps.Steps.{outputs, Goes}
 use Rattle.dcm_base.specs.Reading.Stop.{Stop, complete, refused}
-use Rattle.dcm_devices.proofs.Writes.Puts.{append_known_none}
 use Rattle.dcm_stream.specs.declared.cursor.Cursor.{Cursor}
 use Rattle.dcm_stream.specs.Halts.{Halt}
 use Rattle.dcm_base.specs.declared.stopped.Stopped.TheVariants.{Refused, Output}
@@ -28,7 +28,7 @@ module _ {S : Type 0} (step : S → Atom → S) (writes : S → Atom → List �
       → Goes step writes s held s held (end_shows (finish (reading p None))) (went {T = T} (Err halt))
   early_goes T p at halt s held e h =
       subst (λ (z : Stop). Goes step writes s held s held (end_shows z) (went {T = T} (Err halt))) (sym (at_end p false e))
-      (subst (λ (x : Halt). Goes step writes s held s held [] (went {T = T} (Err x))) (sym h) (refl, sym (append_known_none held)))
+      (subst (λ (x : Halt). Goes step writes s held s held [] (went {T = T} (Err x))) (sym h) (refl, sym (known_nothing held)))
 
   -- it ends without fault
   pub ends_answer : (T : Type 0) (p : Cursor) (r : Result T Halt) → may_end p ≡ true → IsErrAnd r (λ h. h ≡ Output) → EndsWith (finish (reading p None)) r

@@ -2,8 +2,9 @@
 use Rattle.std.proofs.Common.{◌≡◌, ℕ, zero, suc, ◌+◌, ◌-◌, ◌≤◌, ◌<◌, List, [], ◌∷◌, ◌++◌, length, take, drop, Some, None, Bool, true, false, cond, inl, inr, refl, sym, ap, ◌∙◌, subst, arith, length-append, append_assoc}
 use Rattle.std.specs.Prelude.{◌==◌, nat_lt}
 use Rattle.std.proofs.lemmas.Bool.{cases_lt, lt-ltb, le-ltb, eqb-true, cases_Bool}
-use Rattle.std.proofs.lemmas.List.{append-nil, take-append-drop, take-append-le, length-take-le, nil_from_length}
+use Rattle.std.proofs.lemmas.List.{append-nil, take-append-drop, take-append-le, length-take-le, nil_from_length, take_all}
 use Rattle.std.proofs.Math.Seq.{take-append-add}
+use Rattle.dcm_lemmas.proofs.Options.{some_same}
 use Rattle.dcm_base.specs.declared.tag.Tag.{Tag}
 use Rattle.dcm_base.specs.declared.vr.Vr.{Vr}
 use Rattle.dcm_base.specs.declared.syntax.Syntax.{Syntax}
@@ -17,7 +18,7 @@ use Rattle.dcm_base.specs.Reading.Place.{value_open}
 use Rattle.dcm_base.specs.Reading.Stop.{Stop, complete, refused, Bar, stop_at, is_early, is_undecided}
 use Rattle.dcm_base.specs.Reading.Reads.{StopsFirst, Reads, INPUT_LIMIT, told, ended, at_the_cut, end_too_long}
 use Rattle.dcm_base.proofs.DataSets.Extend.{tag_at_extends, vr_at_extends}
-use Rattle.dcm_base.proofs.DataSets.Heads.{some_same, eight_le_head_size}
+use Rattle.dcm_base.proofs.DataSets.Heads.{eight_le_head_size}
 use Rattle.dcm_base.proofs.DataSets.Whole.{append_same}
 use Rattle.dcm_base.proofs.DataSets.Fronts.{front_same}
 use Rattle.dcm_base.proofs.DataSets.Between.{WholeHead, whole_head_extends, between, next_syntax}
@@ -186,9 +187,6 @@ stops_here bar s start p read rest f stop parts spelled at passed = record { rea
 take_nil : (n : ℕ) → length (take {A = ℕ} n []) ≡ 0
 take_nil zero = refl
 take_nil (suc n) = refl
-
-take_all : (n : ℕ) (p : List ℕ) → length p ≤ n → take n p ≡ p
-take_all n p le = ap (take n) (sym (append-nil p)) ∙ take_behind n p [] le ∙ ap (λ (x : List ℕ). p ++ x) (nil_from_length (take (n - length p) []) (take_nil (n - length p))) ∙ append-nil p
 
 -- the input ends here
 pub ends_here : (bar : Bar) (s : Syntax) (start : ℕ) (p read rest : List ℕ) (f : Front) (stop : Stop) → start + length p ≤ INPUT_LIMIT → p ≡ read ++ rest → SpellsFront s f read

@@ -29,7 +29,7 @@ nothing = front no_tree nothing_open None false
 plain_bars : BarsAs (λ atoms. no_bar nothing) no_bar
 plain_bars = record { agree = λ f atoms shows tag vr declared. refl; never_early = λ f tag vr declared. refl }
 
-never : (b : Bool) → is_early_bar (cond b (Some FragmentsBarred) None) ≡ false
+pub never : (b : Bool) → is_early_bar (cond b (Some FragmentsBarred) None) ≡ false
 never true = refl
 never false = refl
 

@@ -2,6 +2,7 @@
 use Rattle.std.proofs.Common.{◌≡◌, ℕ, ◌+◌, ◌≤◌, List, [], ◌∷◌, ◌++◌, length, drop, Option, Some, None, Bool, true, false, cond, not, refl, ap, ◌∙◌, arith, length-append}
 use Rattle.std.specs.Prelude.{nat_lt, nat_le, ◌==◌, ◌&&◌}
 use Rattle.std.proofs.lemmas.Bool.{ltb-false, le-ltb}
+use Rattle.dcm_lemmas.proofs.Truth.{and_second_false}
 use Rattle.dcm_base.specs.declared.tag.Tag.{Tag}
 use Rattle.dcm_base.specs.declared.vr.Vr.{Vr}
 use Rattle.dcm_base.specs.declared.syntax.Syntax.{Syntax}
@@ -105,10 +106,6 @@ pub is_empty_long : (rest : List ℕ) → 8 ≤ length rest → is_empty rest �
 is_empty_long [] le = absurd (omega arith)
 is_empty_long (b ∷ rest) le = refl
 
-pub and_false : (a b : Bool) → b ≡ false → (a && b) ≡ false
-and_false true b h = h
-and_false false b h = refl
-
 pub place_extends : (bar : HeadBar) (inner : Level) (around : List Level) (position : ℕ) (rest z : List ℕ)
     → is_undecided (place_stop bar inner around position rest) ≡ false → place_stop bar inner around position (rest ++ z) ≡ place_stop bar inner around position rest
 place_extends bar inner around position rest z u =
@@ -118,7 +115,7 @@ place_extends bar inner around position rest z u =
     (λ e.
     let le : 8 ≤ length rest = ltb-false _ _ e in
     let more : 8 ≤ length (rest ++ z) = omega (arith, length-append rest z) in (
-      and_false _ _ (is_empty_long (rest ++ z) more),
+      and_second_false _ _ (is_empty_long (rest ++ z) more),
       le-ltb _ _ more,
       ap (λ (t : Tag). not (is_allowed inner.container inner.declared t)) (tag_at_extends inner.syntax rest z (omega arith)),
       (λ k. head_same bar inner around position rest z le k),

@@ -113,6 +113,8 @@ fn other_words(rt: HostRuntime) -> Result<(), Fail> {
     let shown = output_of(alloc, &[b"dcm2csv", b"--help"])?;
     let is_shown = shown.as_slice().starts_with(USE);
     holds("other words", "help", is_shown)?;
+    let short = output_of(alloc, &[b"dcm2csv", b"-h"])?;
+    holds("other words", "help by -h", short == shown)?;
     let help = output_of(alloc, &[b"help", b"dcm2csv"])?;
     holds("other words", "help of a tool", help == shown)
 }

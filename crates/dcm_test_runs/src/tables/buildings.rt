@@ -170,7 +170,87 @@ static FAULTS: [Row; 10] = [
     },
 ];
 
+/// Lines that say that texts are shown as characters, and comments that do not.
+static MARKS: [Row; 9] = [
+    Row {
+        name: "a dump by characters",
+        words: "dump2dcm - -",
+        input: b"# Dicom-File-Format (texts in UTF-8)\n\n(0002,0010) UI =LittleEndianExplicit\n(0010,0010) PN [A]\n",
+        status: 2,
+        told: b"dcmtools: B10 at byte 0, line 1: a dump by characters\n",
+        ..EMPTY
+    },
+    Row {
+        name: "a data set by characters",
+        words: "dump2dcm - -",
+        input: b"(0002,0010) UI =LittleEndianExplicit\n(0010,0010) PN [A]\n# Dicom-Data-Set (texts in UTF-8)\n(0010,0020) LO [7]\n",
+        header: Start::ExplicitLittle,
+        lines: b"\x10\0\x10\0PN\x02\0A ",
+        status: 2,
+        told: b"dcmtools: B10 at byte 56, line 3: a dump by characters\n",
+        ..EMPTY
+    },
+    Row {
+        name: "the last line, which has no newline",
+        words: "dump2dcm - -",
+        input: b"(0002,0010) UI =LittleEndianExplicit\n(0010,0010) PN [A]\n   #(texts in UTF-8)",
+        header: Start::ExplicitLittle,
+        lines: b"\x10\0\x10\0PN\x02\0A ",
+        status: 2,
+        told: b"dcmtools: B10 at byte 56, line 3: a dump by characters\n",
+        ..EMPTY
+    },
+    Row {
+        name: "spaces and a carriage return behind the mark",
+        words: "dump2dcm - -",
+        input: b"(0002,0010) UI =LittleEndianExplicit\n\n# (texts in UTF-8)  \r\n(0010,0010) PN [A]\n",
+        status: 2,
+        told: b"dcmtools: B10 at byte 38, line 3: a dump by characters\n",
+        ..EMPTY
+    },
+    Row {
+        name: "a comment of just the limit",
+        words: "dump2dcm +l 80 - -",
+        input: b"#                                                               (texts in UTF-8)\n",
+        status: 2,
+        told: b"dcmtools: B10 at byte 0, line 1: a dump by characters\n",
+        ..EMPTY
+    },
+    Row {
+        name: "a comment past the limit",
+        words: "dump2dcm +l 80 - -",
+        input: b"#                                                                (texts in UTF-8)\n",
+        status: 2,
+        told: b"dcmtools: B1 at byte 0, line 1: line too long\n",
+        ..EMPTY
+    },
+    Row {
+        name: "a mark that is no comment",
+        words: "dump2dcm - -",
+        input: b"(0002,0010) UI =LittleEndianExplicit\n(texts in UTF-8)\n",
+        status: 2,
+        told: b"dcmtools: B2 at byte 37, line 2: not a dump line\n",
+        ..EMPTY
+    },
+    Row {
+        name: "a tabulator before it",
+        words: "dump2dcm - -",
+        input: b"\t# (texts in UTF-8)\n(0002,0010) UI =LittleEndianExplicit\n",
+        status: 2,
+        told: b"dcmtools: B2 at byte 0, line 1: not a dump line\n",
+        ..EMPTY
+    },
+    Row {
+        name: "comments without the mark",
+        words: "dump2dcm - -",
+        input: b"# Dicom-File-Format\n# (texts in UTF-8).\n# (texts in UTF-8) x\n# (Texts in UTF-8)\n# texts in UTF-8\n# (texts in UTF-8\n# (texts in UTF-8)\r\r\n(0002,0010) UI =LittleEndianExplicit\n(0010,0010) PN [A] # (texts in UTF-8)\n",
+        header: Start::ExplicitLittle,
+        lines: b"\x10\0\x10\0PN\x02\0A ",
+        ..EMPTY
+    },
+];
+
 /// Files that are built from lines.
-pub fn buildings() -> [&'static [Row]; 2] {
-    [&BUILT, &FAULTS]
+pub fn buildings() -> [&'static [Row]; 3] {
+    [&BUILT, &FAULTS, &MARKS]
 }

@@ -265,7 +265,7 @@ static SEQUENCES: [Row; 9] = [
 ];
 
 /// Heads of files.
-static HEADS: [Row; 9] = [
+static HEADS: [Row; 10] = [
     Row {
         name: "a file without elements",
         words: "dcmdump -",
@@ -336,6 +336,14 @@ static HEADS: [Row; 9] = [
         input: b"\x02\0\x02\x01OB\0\0\xcc?\0\0",
         status: 2,
         told: b"dcmtools: R1 at byte 184: input ends too early\n",
+        ..EMPTY
+    },
+    Row {
+        name: "a transfer syntax that ends as a comment of a dump by characters",
+        words: "dcmdump -",
+        start: Start::Prefix,
+        input: b"\x02\0\x10\0UI\x12\01 (texts in UTF-8)",
+        lines: b"# Dicom-File-Format\n\n# Dicom-Meta-Information-Header\n# Used TransferSyntax: LittleEndianExplicit\n(0002,0010) UI [1 (texts in UTF-8)]                     #  18, 1 TransferSyntaxUID\n\n# Dicom-Data-Set\n# Used TransferSyntax: 1 (texts in UTF-8%29\n",
         ..EMPTY
     },
 ];

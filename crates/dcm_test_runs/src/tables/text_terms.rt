@@ -142,7 +142,7 @@ static DATA_SETS: [Row; 4] = [
         name: "data sets: bare",
         words: "dcmdump +u8 -f -ti -",
         input: b"\x08\0\x05\0\n\0\0\0ISO_IR 100\x10\0 \0\x02\0\0\0\xe9 ",
-        lines: b"# Dicom-Data-Set\n# Used TransferSyntax: LittleEndianImplicit\n(0008,0005) CS [ISO_IR 100]                             #  10, 1 SpecificCharacterSet\n(0010,0020) LO [\xc3\xa9]                                     #   2, 1 PatientID\n",
+        lines: b"# Dicom-Data-Set (texts in UTF-8)\n# Used TransferSyntax: LittleEndianImplicit\n(0008,0005) CS [ISO_IR 100]                             #  10, 1 SpecificCharacterSet\n(0010,0020) LO [\xc3\xa9]                                     #   2, 1 PatientID\n",
         ..EMPTY
     },
 ];
@@ -154,7 +154,7 @@ static OTHERS: [Row; 3] = [
         words: "dcmdump +u8 -",
         start: Start::Prefix,
         input: b"\x02\0\0\0UL\x04\0&\0\0\0\x02\0\x10\0UI\x14\01.2.840.10008.1.2.1\0\x02\0\x16\0AE\x02\0\xe9 \x08\0\x05\0CS\n\0ISO_IR 100\x08\0`\0CS\x02\0\xe9\\\x08\0 \0DA\x02\0\xe9 \x08\0\x18\0UI\x04\01.2\xe9\x10\0 \0LO\x02\0\xe9 ",
-        lines: b"# Dicom-File-Format\n\n# Dicom-Meta-Information-Header\n# Used TransferSyntax: LittleEndianExplicit\n(0002,0000) UL 38                                       #   4, 1 FileMetaInformationGroupLength\n(0002,0010) UI =LittleEndianExplicit                    #  20, 1 TransferSyntaxUID\n(0002,0016) AE [%E9]                                    #   2, 1 SourceApplicationEntityTitle\n\n# Dicom-Data-Set\n# Used TransferSyntax: LittleEndianExplicit\n(0008,0005) CS [ISO_IR 100]                             #  10, 1 SpecificCharacterSet\n(0008,0060) CS [%E9\\]                                   #   2, 2 Modality\n(0008,0020) DA [%E9]                                    #   2, 1 StudyDate\n(0008,0018) UI [1.2%E9]                                 #   4, 1 SOPInstanceUID\n(0010,0020) LO [\xc3\xa9]                                     #   2, 1 PatientID\n",
+        lines: b"# Dicom-File-Format (texts in UTF-8)\n\n# Dicom-Meta-Information-Header\n# Used TransferSyntax: LittleEndianExplicit\n(0002,0000) UL 38                                       #   4, 1 FileMetaInformationGroupLength\n(0002,0010) UI =LittleEndianExplicit                    #  20, 1 TransferSyntaxUID\n(0002,0016) AE [%E9]                                    #   2, 1 SourceApplicationEntityTitle\n\n# Dicom-Data-Set\n# Used TransferSyntax: LittleEndianExplicit\n(0008,0005) CS [ISO_IR 100]                             #  10, 1 SpecificCharacterSet\n(0008,0060) CS [%E9\\]                                   #   2, 2 Modality\n(0008,0020) DA [%E9]                                    #   2, 1 StudyDate\n(0008,0018) UI [1.2%E9]                                 #   4, 1 SOPInstanceUID\n(0010,0020) LO [\xc3\xa9]                                     #   2, 1 PatientID\n",
         ..EMPTY
     },
     Row {
@@ -171,7 +171,7 @@ static OTHERS: [Row; 3] = [
         words: "dcmdump +u8 -",
         start: Start::Prefix,
         input: b"\x02\0\x10\0UI\x04\01.\xe9\0",
-        lines: b"# Dicom-File-Format\n\n# Dicom-Meta-Information-Header\n# Used TransferSyntax: LittleEndianExplicit\n(0002,0010) UI [1.%E9]                                  #   4, 1 TransferSyntaxUID\n\n# Dicom-Data-Set\n# Used TransferSyntax: 1.%E9\n",
+        lines: b"# Dicom-File-Format (texts in UTF-8)\n\n# Dicom-Meta-Information-Header\n# Used TransferSyntax: LittleEndianExplicit\n(0002,0010) UI [1.%E9]                                  #   4, 1 TransferSyntaxUID\n\n# Dicom-Data-Set\n# Used TransferSyntax: 1.%E9\n",
         ..EMPTY
     },
 ];

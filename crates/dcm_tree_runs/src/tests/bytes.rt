@@ -162,7 +162,7 @@ pub const ONE: Bytes = Bytes {
 };
 
 pub const ONE_NEW: Bytes = Bytes {
-    start: Start::ExplicitLittle,
+    start: Start::WithoutIdentity,
     rest: &[
         NEW_INSTANCE,
         REMOVED,
@@ -181,7 +181,7 @@ pub const TWO: Bytes = Bytes {
 };
 
 pub const TWO_NEW: Bytes = Bytes {
-    start: Start::ExplicitLittle,
+    start: Start::WithoutIdentity,
     rest: &[
         NEW_OTHER_INSTANCE,
         REMOVED,
@@ -206,7 +206,7 @@ pub const PATIENT: Bytes = Bytes {
 };
 
 pub const PATIENT_NAMED: Bytes = Bytes {
-    start: Start::ExplicitLittle,
+    start: Start::WithoutIdentity,
     rest: &[
         INSTANCE,
         NO_DATE,
@@ -221,7 +221,7 @@ pub const PATIENT_NAMED: Bytes = Bytes {
 };
 
 pub const PATIENT_MOVED: Bytes = Bytes {
-    start: Start::ExplicitLittle,
+    start: Start::WithoutIdentity,
     rest: &[
         INSTANCE,
         b"\x08\0 \0DA\x08\x0020240131",
@@ -236,7 +236,7 @@ pub const PATIENT_MOVED: Bytes = Bytes {
 };
 
 pub const PATIENT_MOVED_BY_KEY: Bytes = Bytes {
-    start: Start::ExplicitLittle,
+    start: Start::WithoutIdentity,
     rest: &[
         INSTANCE,
         b"\x08\0 \0DA\x08\x0020190617",

@@ -27,7 +27,7 @@ pub static COPIES: [Row; 4] = [
             r#"","written"
 "q/1",""#,
             ONE_NAME,
-            r#"","there"
+            r#"","taken"
 "#,
         ],
         told: b"dcmtools: q/1: output is there already\n",
@@ -54,7 +54,7 @@ pub static COPIES: [Row; 4] = [
             r#"","written"
 "q/1",""#,
             ONE_NAME,
-            r#"","there"
+            r#"","taken"
 "#,
         ],
         told: b"dcmtools: q/1: output is there already\n",
@@ -154,7 +154,7 @@ pub static AGAIN: [Row; 6] = [
         ],
         output: &[
             HEADER,
-            r#""a","1.2.3/1.2.4/1.2.5.dcm","there"
+            r#""a","1.2.3/1.2.4/1.2.5.dcm","taken"
 "#,
         ],
         told: b"dcmtools: a: output is there already\n",
@@ -171,7 +171,7 @@ pub static AGAIN: [Row; 6] = [
         ],
         output: &[
             HEADER,
-            r#""a","1.2.3/1.2.4/1.2.5.dcm","there"
+            r#""a","1.2.3/1.2.4/1.2.5.dcm","taken"
 "#,
         ],
         told: b"dcmtools: a: output is there already\n",
@@ -201,7 +201,7 @@ pub static AGAIN: [Row; 6] = [
         ],
         output: &[
             HEADER,
-            r#""a","1.2.3/1.2.4/1.2.5.dcm","there"
+            r#""a","1.2.3/1.2.4/1.2.5.dcm","taken"
 "#,
         ],
         told: b"dcmtools: a: output is there already\n",
@@ -232,7 +232,7 @@ pub static AGAIN: [Row; 6] = [
         ],
         output: &[
             HEADER,
-            r#""a","1.2.3/1.2.4/1.2.5.dcm","there"
+            r#""a","1.2.3/1.2.4/1.2.5.dcm","taken"
 "#,
         ],
         told: b"dcmtools: a: output is there already\n",

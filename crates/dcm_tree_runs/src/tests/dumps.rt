@@ -39,7 +39,7 @@ const DUMP_OF_OTHER: &str = "\
 (0010,0010) PN [E^F]                                    #   4, 1 PatientName\n";
 
 const DUMP_OF_LATIN: &str = "\
-# Dicom-File-Format\n\
+# Dicom-File-Format (texts in UTF-8)\n\
 \n\
 # Dicom-Meta-Information-Header\n\
 # Used TransferSyntax: LittleEndianExplicit\n\
@@ -52,7 +52,7 @@ const DUMP_OF_LATIN: &str = "\
 (0010,0010) PN [Jörg^ÿ]                               #   6, 1 PatientName\n";
 
 const DUMP_OF_UTF8: &str = "\
-# Dicom-File-Format\n\
+# Dicom-File-Format (texts in UTF-8)\n\
 \n\
 # Dicom-Meta-Information-Header\n\
 # Used TransferSyntax: LittleEndianExplicit\n\

@@ -5,7 +5,7 @@ use super::rows::{EMPTY, HEADER, Row};
 use dcm_test_trees::{SOUND, TreeDevices};
 
 /// What is read fails.
-pub static INPUTS: [Row; 8] = [
+pub static INPUTS: [Row; 11] = [
     Row {
         name: "a file that cannot be opened",
         words: "dcmconv +r in out",
@@ -113,6 +113,61 @@ pub static INPUTS: [Row; 8] = [
         ..EMPTY
     },
     Row {
+        name: "a file whose closing fails",
+        words: "dcmconv +r in out",
+        before: &[File(b"in/b", OTHER), File(b"in/a", GOOD)],
+        devices: TreeDevices {
+            closings: 1,
+            ..SOUND
+        },
+        output: &[
+            HEADER,
+            r#""b","b","written"
+"a",,"unwritten"
+"#,
+        ],
+        told: b"dcmtools: a: output failed\n",
+        status: 4,
+        made: &[File(b"out/b", CONVERTED)],
+        ..EMPTY
+    },
+    Row {
+        name: "a file at fault, whose closing fails",
+        words: "dcmconv +r in out",
+        before: &[Plain(b"in/a", b"no")],
+        devices: TreeDevices {
+            closings: 0,
+            ..SOUND
+        },
+        output: &[
+            HEADER,
+            r#""a",,"refused"
+"#,
+        ],
+        told: b"dcmtools: a: R1 at byte 2: input ends too early\n",
+        status: 2,
+        made: &[Folder(b"out")],
+        ..EMPTY
+    },
+    Row {
+        name: "a file that an instance names, whose closing fails",
+        words: "dcmdeid +ru +k key +pi +r in out",
+        before: &[Plain(b"key", KEY), File(b"in/a", PATIENT)],
+        devices: TreeDevices {
+            closings: 0,
+            ..SOUND
+        },
+        output: &[
+            HEADER,
+            r#""a",,"unwritten"
+"#,
+        ],
+        told: b"dcmtools: a: output failed\n",
+        status: 4,
+        made: &[Folder(b"out")],
+        ..EMPTY
+    },
+    Row {
         name: "the first folder cannot be opened",
         words: "dcmconv +r in out",
         before: &[File(b"in/a", GOOD)],
@@ -204,7 +259,7 @@ pub static OUTPUTS: [Row; 6] = [
         },
         output: &[
             HEADER,
-            r#""a","1.2.3/1.2.4/1.2.5.dcm","there"
+            r#""a","1.2.3/1.2.4/1.2.5.dcm","taken"
 "#,
         ],
         told: b"dcmtools: a: output is there already\n",
@@ -225,7 +280,7 @@ pub static OUTPUTS: [Row; 6] = [
             r#""a","a","written"
 "#,
         ],
-        told: b"dcmtools: .part.1: another run is at work, or was cut off\n",
+        told: b"dcmtools: .part.1: another run is at work\n",
         status: 4,
         made: &[File(b"out/a", GOOD), Plain(b"out/.part.1", b"")],
         ..EMPTY

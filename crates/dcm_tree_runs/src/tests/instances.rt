@@ -4,7 +4,7 @@ use super::bytes::{
     NEW_SERIES, NEW_STUDY, ONE, ONE_NAME, ONE_NEW, ONE_PATH, PROFILE, PROFILE_UIDS, REMOVED,
     SERIES, SHOWN, STANDARD_STUDY, STUDY, TWO, TWO_NAME, TWO_NEW, TWO_PATH,
 };
-use super::rows::Entry::{File, FileOfMode, Folder, Plain, Set};
+use super::rows::Entry::{Deidentified, File, FileOfMode, Folder, Plain, Set};
 use super::rows::{EMPTY, HEADER, Row};
 
 /// Names by unique identifiers, and files that have none.
@@ -49,7 +49,7 @@ pub static INSTANCES: [Row; 7] = [
             r#""a","1.2.840.10008.7/1.2.840.10008.8/2.25.17571007554823205754987987502969510290.dcm","written"
 "#,
         ],
-        made: &[Set(
+        made: &[Deidentified(
             b"out/1.2.840.10008.7/1.2.840.10008.8/2.25.17571007554823205754987987502969510290.dcm",
             &[
                 b"\x08\0\x18\0UI,\x002.25.17571007554823205754987987502969510290\0",
@@ -79,7 +79,7 @@ pub static INSTANCES: [Row; 7] = [
         ],
         made: &[
             File(b"out/Doe/1", ONE_NEW),
-            Set(
+            Deidentified(
                 b"out/2",
                 &[
                     NEW_INSTANCE,
@@ -138,7 +138,7 @@ dcmtools: c: StudyInstanceUID is missing or unfit\n\
 dcmtools: d: StudyInstanceUID is missing or unfit\n\
 dcmtools: e: StudyInstanceUID is missing or unfit\n",
         status: 2,
-        made: &[Set(
+        made: &[Deidentified(
             b"out/1.22222222222222222222222222222222222222222222222222222222222222/.../7.dcm",
             &[
                 b"\x08\0\x18\0UI\x04\x007\0\0 ",
@@ -205,7 +205,7 @@ dcmtools: d: R1 at byte 198: input ends too early\n",
             r#"","written"
 "#,
         ],
-        made: &[Set(
+        made: &[Deidentified(
             TWO_PATH,
             &[
                 NEW_OTHER_INSTANCE,

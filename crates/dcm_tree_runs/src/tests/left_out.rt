@@ -38,6 +38,11 @@ dcmtools: p: no regular file\n",
         before: &[
             File(b"in/DICOMDIR", GOOD),
             File(b"in/x/DicomDir", GOOD),
+            File(b"in/x/dicomdir.", GOOD),
+            File(b"in/x/DICOMDIR;1", GOOD),
+            File(b"in/x/DICOMDIR.;12", GOOD),
+            File(b"in/x/DICOMDIR;", GOOD),
+            File(b"in/x/DICOMDIR;1a", GOOD),
             File(b"in/dicomdir.dcm", GOOD),
             File(b"in/y/dicomdir/a", GOOD),
         ],
@@ -45,13 +50,23 @@ dcmtools: p: no regular file\n",
             HEADER,
             r#""DICOMDIR",,"left-out"
 "x/DicomDir",,"left-out"
+"x/dicomdir.",,"left-out"
+"x/DICOMDIR;1",,"left-out"
+"x/DICOMDIR.;12",,"left-out"
+"x/DICOMDIR;","x/DICOMDIR;","written"
+"x/DICOMDIR;1a","x/DICOMDIR;1a","written"
 "dicomdir.dcm","dicomdir.dcm","written"
 "y/dicomdir/a","y/dicomdir/a","written"
 "#,
         ],
         told: b"dcmtools: DICOMDIR: DICOMDIR is left out\n\
-dcmtools: x/DicomDir: DICOMDIR is left out\n",
+dcmtools: x/DicomDir: DICOMDIR is left out\n\
+dcmtools: x/dicomdir.: DICOMDIR is left out\n\
+dcmtools: x/DICOMDIR;1: DICOMDIR is left out\n\
+dcmtools: x/DICOMDIR.;12: DICOMDIR is left out\n",
         made: &[
+            File(b"out/x/DICOMDIR;", GOOD),
+            File(b"out/x/DICOMDIR;1a", GOOD),
             File(b"out/dicomdir.dcm", GOOD),
             File(b"out/y/dicomdir/a", GOOD),
         ],

@@ -6,7 +6,7 @@ use dcm_test_devices::Start;
 use dcm_test_trees::{SOUND, TreeDevices};
 
 /// Names in lists.
-pub static LISTS: [Row; 5] = [
+pub static LISTS: [Row; 7] = [
     Row {
         name: "names that are read, and others",
         words: "dcmconv +r @list out",
@@ -66,7 +66,7 @@ in/a",
 "out/x",,"left-out"
 "out",,"left-out"
 ".part.1",,"left-out"
-"in/a","in/a","there"
+"in/a","in/a","taken"
 "#,
         ],
         told: b"dcmtools: /etc/passwd: name does not fit\n\
@@ -140,6 +140,36 @@ dcmtools: in/a: output is there already\n",
         told: b"dcmtools: list: reading failed after 0 bytes\n",
         status: 4,
         made: &[Folder(b"out")],
+        ..EMPTY
+    },
+    Row {
+        name: "a name that is another's",
+        words: "dcmconv +v +r @list out",
+        before: &[File(b"in/a", GOOD), Plain(b"list", b"in/a\n./in/a\n")],
+        output: &[
+            HEADER,
+            r#""in/a","in/a","written"
+"./in/a","in/a","taken"
+"#,
+        ],
+        told: b"dcmtools: ./in/a: output is there already\n\
+2 files, 1 written, 0 there, 1 not done\n",
+        status: 4,
+        made: &[File(b"out/in/a", GOOD)],
+        ..EMPTY
+    },
+    Row {
+        name: "a name that is there, in a run that goes on",
+        words: "dcmconv +v +c +r @list out",
+        before: &[File(b"in/a", GOOD), Plain(b"list", b"in/a\n./in/a\n")],
+        output: &[
+            HEADER,
+            r#""in/a","in/a","written"
+"./in/a","in/a","there"
+"#,
+        ],
+        told: b"2 files, 1 written, 1 there, 0 not done\n",
+        made: &[File(b"out/in/a", GOOD)],
         ..EMPTY
     },
 ];

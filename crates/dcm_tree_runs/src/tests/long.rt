@@ -157,7 +157,7 @@ fn parted_tree(alloc: Global, far: &[u8]) -> Result<Tree, AllocError> {
 /// Expects that of these files a part leaves out the one of this name, of which it shows the first bytes.
 fn expect_part(alloc: Global, line: &'static str, far: &[u8], shown: &[u8]) -> Result<(), Fail> {
     let mut tree = parted_tree(alloc, far)?;
-    tree.put(b"out", Node::folder())?;
+    tree.put(b"out", Node::folder(0o755))?;
     let mut wanted = Answer::leaving(alloc, LEFT_OUT, tree)?;
     wanted.add_unfit(shown)?;
     expect_line(alloc, line, parted_tree(alloc, far)?, &wanted)

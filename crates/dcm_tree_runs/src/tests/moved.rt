@@ -1,13 +1,13 @@
 // Rows of pseudonyms, and of days that are moved.
 use super::bytes::{
-    DATE, DATES_MODIFIED, INSTANCE, KEY, METHOD, ONE, PATIENT, PATIENT_ID, PATIENT_MOVED,
-    PATIENT_MOVED_BY_KEY, PATIENT_NAMED, PROFILE_DATES_UIDS, REMOVED, SERIES, STUDY,
+    BURNED_IN, DATE, DATES_MODIFIED, INSTANCE, KEY, METHOD, ONE, PATIENT, PATIENT_ID,
+    PATIENT_MOVED, PATIENT_MOVED_BY_KEY, PATIENT_NAMED, PROFILE_DATES_UIDS, REMOVED, SERIES, STUDY,
 };
-use super::rows::Entry::{File, Plain, Set};
+use super::rows::Entry::{Deidentified, File, Plain, Set};
 use super::rows::{EMPTY, HEADER, Row};
 
 /// Pseudonyms, and days that are moved.
-pub static MOVED: [Row; 4] = [
+pub static MOVED: [Row; 5] = [
     Row {
         name: "a pseudonym",
         words: "dcmdeid +pi +ru +k key +r in out",
@@ -36,7 +36,7 @@ pub static MOVED: [Row; 4] = [
         ],
         made: &[
             File(b"out/a", PATIENT_MOVED),
-            Set(
+            Deidentified(
                 b"out/b",
                 &[
                     INSTANCE,
@@ -49,6 +49,68 @@ pub static MOVED: [Row; 4] = [
                 ],
             ),
         ],
+        ..EMPTY
+    },
+    Row {
+        name: "dates that vanish",
+        words: "dcmdeid +rm 1 +kn +ru +r in out",
+        before: &[
+            Set(
+                b"in/a",
+                &[
+                    INSTANCE,
+                    b"\x08\0 \0DA\x06\0TODAY ",
+                    b"\x08\0!\0DA\x08\x0020230229",
+                    STUDY,
+                    SERIES,
+                ],
+            ),
+            Set(
+                b"in/b",
+                &[
+                    INSTANCE,
+                    b"\x08\0 \0DA\x06\0TODAY ",
+                    STUDY,
+                    SERIES,
+                    BURNED_IN,
+                ],
+            ),
+            Set(
+                b"in/c",
+                &[
+                    INSTANCE,
+                    b"\x08\0 \0DA\x06\0TODAY ",
+                    b"\x08\0!\0DA\x08\x00202302",
+                ],
+            ),
+        ],
+        output: &[
+            HEADER,
+            r#""a","a","written"
+"b",,"pixels"
+"c",,"refused"
+"#,
+        ],
+        told: b"dcmtools: a: 2 dates are emptied\n\
+dcmtools: b: 1 dates are emptied\n\
+dcmtools: b: pixels may show identity\n\
+dcmtools: c: 1 dates are emptied\n\
+dcmtools: c: R1 at byte 214: input ends too early\n",
+        status: 3,
+        made: &[Deidentified(
+            b"out/a",
+            &[
+                INSTANCE,
+                b"\x08\0 \0DA\0\0",
+                b"\x08\0!\0DA\0\0",
+                REMOVED,
+                METHOD,
+                PROFILE_DATES_UIDS,
+                STUDY,
+                SERIES,
+                DATES_MODIFIED,
+            ],
+        )],
         ..EMPTY
     },
     Row {

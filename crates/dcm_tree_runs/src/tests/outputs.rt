@@ -1,6 +1,6 @@
 // Rows of outputs that have the names of their files.
 use super::bytes::{CUT, GOOD, OTHER, TEXT};
-use super::rows::Entry::{File, FileOfMode, Folder, Link, Plain, Set};
+use super::rows::Entry::{File, FileOfMode, Folder, FolderOfMode, Link, Plain, Set};
 use super::rows::{Bytes, EMPTY, HEADER, Row};
 use dcm_test_devices::Start;
 use dcm_test_trees::{SOUND, TreeDevices};
@@ -61,6 +61,7 @@ pub static OUTPUTS: [Row; 8] = [
 "#,
         ],
         made: &[
+            FolderOfMode(b"out", 0o700),
             FileOfMode(b"out/a", GOOD, 0o700),
             FileOfMode(b"out/b", GOOD, 0o600),
             FileOfMode(b"out/c", GOOD, 0o400),

@@ -158,7 +158,11 @@ fn names_are_made_once(rt: HostRuntime) -> Result<(), Fail> {
         "a", "to_a", "gone", "loop", "pipe", "a/file", ".", "..", "/",
     ] {
         let there = ErrorKind::AlreadyExists;
-        holds(path, "make_folder", fails(system.make_folder(path), there))?;
+        holds(
+            path,
+            "make_folder",
+            fails(system.make_folder(path, 0o777), there),
+        )?;
         holds(
             path,
             "create_as",
@@ -169,12 +173,15 @@ fn names_are_made_once(rt: HostRuntime) -> Result<(), Fail> {
     holds(
         "a/file/x",
         "make_folder",
-        fails(system.make_folder("a/file/x"), ErrorKind::NotADirectory),
+        fails(
+            system.make_folder("a/file/x", 0o777),
+            ErrorKind::NotADirectory,
+        ),
     )?;
     holds(
         "x/y",
         "make_folder",
-        fails(system.make_folder("x/y"), ErrorKind::NotFound),
+        fails(system.make_folder("x/y", 0o777), ErrorKind::NotFound),
     )
 }
 

@@ -34,6 +34,13 @@ dcmodify in out +r: V4: wrong number of paths
 dcmodify -e Nothing +part 2/1 +r @ out: V4: wrong number of paths
 dcmconv +c @ out: V5: options do not go together
 dcmconv +c in in: V5: options do not go together
+dcmconv +ow +r in out: V5: options do not go together
+dcmconv +r +ow in in: V5: options do not go together
+dcmconv +ow +c in out: V5: options do not go together
+dcmconv +ow +r @ out: V4: wrong number of paths
+dcmdeid +ow +pi +r in out: V5: options do not go together
+dcmodify -ep +ow +r in out: V5: options do not go together
+dcmodify +r -e +ow in out: U2 in edit 1: unknown tag
 dcmodify +v -ep in out: V5: options do not go together
 dcmconv +r in -: V5: options do not go together
 dcmodify +r -ep - out: V5: options do not go together

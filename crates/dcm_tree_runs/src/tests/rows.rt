@@ -21,12 +21,16 @@ pub enum Entry {
     FileOfMode(&'static [u8], Bytes, u32),
     /// A file of explicit VR little endian, with these pieces of a data set.
     Set(&'static [u8], &'static [&'static [u8]]),
+    /// The same as dcmdeid writes it.
+    Deidentified(&'static [u8], &'static [&'static [u8]]),
     /// A file of these bytes alone.
     Plain(&'static [u8], &'static [u8]),
     /// A file whose first read fails.
     Broken(&'static [u8]),
     /// An empty folder.
     Folder(&'static [u8]),
+    /// An empty folder of this mode.
+    FolderOfMode(&'static [u8], u32),
     /// A link, and the path that it leads to.
     Link(&'static [u8], &'static [u8]),
     /// A pipe.
@@ -54,6 +58,8 @@ pub struct Row {
     pub status: u8,
     /// What is there afterwards beside what was there before.
     pub made: &'static [Entry],
+    /// The paths of what was there before and is gone afterwards.
+    pub gone: &'static [&'static [u8]],
 }
 
 /// No bytes.
@@ -73,6 +79,7 @@ pub const EMPTY: Row = Row {
     told: b"",
     status: 0,
     made: &[],
+    gone: &[],
 };
 
 /// The first row of a manifest.
@@ -81,13 +88,13 @@ pub const HEADER: &str = "\"File\",\"Output\",\"Status\"\n";
 /// The mode of a file where none is said.
 pub const MODE: u32 = 0o644;
 
+/// That of a folder.
+const FOLDER_MODE: u32 = 0o755;
+
 impl Bytes {
-    /// Those of a file of explicit VR little endian, with these pieces of a data set.
-    fn of_set(rest: &'static [&'static [u8]]) -> Self {
-        Bytes {
-            start: Start::ExplicitLittle,
-            rest,
-        }
+    /// Those of a file that begins so, with these pieces of a data set.
+    fn of_set(start: Start, rest: &'static [&'static [u8]]) -> Self {
+        Bytes { start, rest }
     }
 
     /// All of them.
@@ -109,8 +116,10 @@ impl Entry {
     /// Its path.
     fn path(&self) -> &'static [u8] {
         match *self {
-            Entry::File(path, _) | Entry::FileOfMode(path, _, _) | Entry::Set(path, _) => path,
-            Entry::Plain(path, _) | Entry::Broken(path) | Entry::Folder(path) => path,
+            Entry::File(path, _) | Entry::FileOfMode(path, _, _) => path,
+            Entry::Set(path, _) | Entry::Deidentified(path, _) => path,
+            Entry::Plain(path, _) | Entry::Broken(path) => path,
+            Entry::Folder(path) | Entry::FolderOfMode(path, _) => path,
             Entry::Link(path, _) | Entry::Pipe(path) => path,
         }
     }
@@ -120,10 +129,14 @@ impl Entry {
         match *self {
             Entry::File(_, bytes) => bytes.file(alloc, MODE),
             Entry::FileOfMode(_, bytes, mode) => bytes.file(alloc, mode),
-            Entry::Set(_, set) => Bytes::of_set(set).file(alloc, MODE),
+            Entry::Set(_, set) => Bytes::of_set(Start::ExplicitLittle, set).file(alloc, MODE),
+            Entry::Deidentified(_, set) => Bytes::of_set(Start::WithoutIdentity, set).file(
+                alloc, MODE,
+            ),
             Entry::Plain(_, bytes) => Node::file(alloc, bytes, MODE),
             Entry::Broken(_) => Ok(Node::Broken),
-            Entry::Folder(_) => Ok(Node::folder()),
+            Entry::Folder(_) => Ok(Node::folder(FOLDER_MODE)),
+            Entry::FolderOfMode(_, mode) => Ok(Node::folder(mode)),
             Entry::Link(_, path) => Node::link(alloc, path),
             Entry::Pipe(_) => Ok(Node::Pipe),
         }
@@ -136,6 +149,17 @@ pub fn put_all(alloc: Global, tree: &mut Tree, entries: &[Entry]) -> Result<(), 
         tree.put(entry.path(), entry.node(alloc)?)?;
     }
     Ok(())
+}
+
+/// A tree of those entries that are not at these paths.
+pub fn tree_without(alloc: Global, entries: &[Entry], paths: &[&[u8]]) -> Result<Tree, AllocError> {
+    let mut tree = Tree::new(alloc)?;
+    for entry in entries {
+        if !paths.contains(&entry.path()) {
+            tree.put(entry.path(), entry.node(alloc)?)?;
+        }
+    }
+    Ok(tree)
 }
 
 /// A tree of entries.

@@ -1,5 +1,5 @@
 // Runs of rows, and what is wanted of them.
-use super::rows::{Row, put_all, tree_of};
+use super::rows::{Row, put_all, tree_of, tree_without};
 use dcm_base::{Std, Watched};
 use dcm_tables::obey;
 use dcm_test_devices::split;
@@ -63,7 +63,7 @@ pub fn bytes_of(alloc: Global, texts: &[&str]) -> Result<Vec<u8>, AllocError> {
 
 /// What is wanted of a row.
 fn wanted_of(alloc: Global, row: &Row) -> Result<Answer, AllocError> {
-    let mut tree = tree_of(alloc, row.before)?;
+    let mut tree = tree_without(alloc, row.before, row.gone)?;
     put_all(alloc, &mut tree, row.made)?;
     Ok(Answer {
         status: row.status,

@@ -5,9 +5,11 @@ use Rattle.std.proofs.lemmas.Bool.{false≢true, cases_Bool}
 use Rattle.std.proofs.lemmas.Bool.Decides.{nat_tests}
 use Rattle.std.proofs.lemmas.List.Sums.{sum_by-cons}
 use mathlib.Core.Logic.{⊎_elim}
+use Rattle.dcm_lemmas.proofs.Truth.{and_second_false}
 use Rattle.dcm_base.specs.declared.vr.Vr.{Vr}
 use Rattle.dcm_base.specs.declared.vr.Vr.TheVariants.{AE, AS, AT, CS, DA, DS, DT, FD, FL, IS, LO, LT, OB, OD, OF, OL, OV, OW, PN, SH, SL, SQ, SS, ST, SV, TM, UC, UI, UL, UN, UR, US, UT, UV}
 use Rattle.dcm_base.specs.Dump.ValueText.{Shape, identifier, shape}
+use Rattle.dcm_text.proofs.Whole.{same_behind}
 use Rattle.dcm_text.specs.declared.set.Halves.{Halves}
 use Rattle.dcm_text.specs.declared.set.Right.TheVariants as right
 use Rattle.dcm_text.specs.declared.set.TextKind.{TextKind}
@@ -16,7 +18,7 @@ use Rattle.dcm_text.specs.declared.first.Found.{Found}
 use Rattle.dcm_text.specs.declared.form.Opening.{Opening}
 use Rattle.dcm_text.specs.declared.form.Opening.TheVariants as opening
 use Rattle.dcm_text.specs.Forms.{right_opening}
-use Rattle.dcm_text.specs.First.{first_of, start_of, resets, behind, opening_of, opened, designated, designations, meaning_of}
+use Rattle.dcm_text.specs.First.{first_of, start_of, opening_of, opened, designated, designations, meaning_of}
 use Rattle.dcm_text.specs.Sets.{sets_of, terms}
 use Rattle.dcm_text.specs.Decoding.{Piece, decoded_from, decoded}
 use Rattle.dcm_text.proofs.Pieces.{one_piece, found_some}
@@ -117,21 +119,10 @@ ascii b = cond (nat_lt b 0x80) (Some b) None
 abbrev pub ascii_piece : ℕ → Piece
 ascii_piece b = (b ∷ [], meaning_of (ascii b))
 
-and_false : (t x : Bool) → x ≡ false → (t && x) ≡ false
-and_false true x e = e
-and_false false x e = refl
-
 default_opening : (sets : Sets) (b : ℕ) → IsDefault sets → opening_of (start_of sets) b ≡ opening.Byte (ascii b)
 default_opening sets b d = ap (λ r. cond (nat_lt b 0x80) (opening.Byte (Some b)) (right_opening r b)) d.start ∙ go (nat_lt b 0x80)
   where
     go : (t : Bool) → cond t (opening.Byte (Some b)) (opening.Byte None) ≡ opening.Byte (cond t (Some b) None)
-    go true = refl
-    go false = refl
-
-same_behind : (sets : Sets) (kind : TextKind) (b : ℕ) → behind sets kind (start_of sets) b ≡ start_of sets
-same_behind sets kind b = go (resets kind b)
-  where
-    go : (t : Bool) → cond t (start_of sets) (start_of sets) ≡ start_of sets
     go true = refl
     go false = refl
 
@@ -142,7 +133,7 @@ default_first : (sets : Sets) (kind : TextKind) (b : ℕ) (rest : List ℕ) → 
     → first_of sets kind (start_of sets) (b ∷ rest) ≡ Some (default_found sets b)
 unfolding first_of
 default_first sets kind b rest d =
-    ap (λ (t : Bool). cond t (designated sets designations (start_of sets) rest) (opened (opening_of (start_of sets) b) sets kind (start_of sets) (b ∷ rest))) (and_false (b == 0x1B) sets.extended d.alone)
+    ap (λ (t : Bool). cond t (designated sets designations (start_of sets) rest) (opened (opening_of (start_of sets) b) sets kind (start_of sets) (b ∷ rest))) (and_second_false (b == 0x1B) sets.extended d.alone)
     ∙ ap (λ (o : Opening). opened o sets kind (start_of sets) (b ∷ rest)) (default_opening sets b d)
     ∙ ap (λ (h : Halves). let f : Found = record { size = 1; meaning = meaning_of (ascii b); halves = h } in Some f) (same_behind sets kind b)
 

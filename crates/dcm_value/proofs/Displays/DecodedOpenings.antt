@@ -3,13 +3,14 @@ use Rattle.std.proofs.Common.{◌≡◌, ◌<◌, ℕ, ◌+◌, ◌&&◌, min, n
 use Rattle.std.proofs.lemmas.Bool.{cases_Bool}
 use Rattle.std.proofs.lemmas.List.Sums.{fold-append}
 use mathlib.Core.Logic.{⊎_elim}
+use Rattle.dcm_lemmas.proofs.Truth.{and_last_false}
 use Rattle.dcm_base.specs.Steps.Steps.{outputs}
 use Rattle.dcm_base.proofs.Writes.Runs.{outputs-append}
 use Rattle.dcm_value.specs.Display.{emit, at_once}
 use Rattle.dcm_value.specs.DecodedProgress.{DecodedProgress, is_named, step, writes, adds, opening, opening_writes, opened, is_unopened, feeds}
 use Rattle.dcm_value.specs.DecodedLaws.{DecodedInPieces}
 use Rattle.dcm_value.proofs.Displays.Emits.{IsSettled, emit_settled, once_none}
-use Rattle.dcm_value.proofs.Displays.Openings.{shown_more, still, and_none}
+use Rattle.dcm_value.proofs.Displays.Openings.{shown_more, still}
 
 -- nothing stands before its next byte, and showing nothing changes nothing
 pub record IsReady (p : DecodedProgress) : Type 0 where
@@ -37,7 +38,7 @@ ready_opened p = record { is_opened = is_opened; settled = emit_settled p.displa
         (λ t.
         let some : 0 < min 67 (p.display.shown + length (opening p)) = (let long : length (opening p) ≡ 1 = ap (λ x. length (cond x (codes "[") [])) t in omega arith) in
         ap (λ x. not (is_named p.vr p.size) && (nat_lt 0 p.size && x)) (ne_eqb (min 67 (p.display.shown + length (opening p))) 0 (λ e. omega (arith, e)))
-        ∙ and_none (not (is_named p.vr p.size)) (nat_lt 0 p.size))
+        ∙ and_last_false (not (is_named p.vr p.size)) (nat_lt 0 p.size))
         (λ f. still (not (is_named p.vr p.size)) (nat_lt 0 p.size) p.display.shown _ (shown_more p.display (opening p)) f)
         (cases_Bool (is_unopened p))
 

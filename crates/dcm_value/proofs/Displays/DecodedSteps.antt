@@ -6,13 +6,14 @@ use Rattle.std.proofs.lemmas.List.{length-append, length-take, append-nil}
 use Rattle.std.proofs.lemmas.List.Sums.{fold-append}
 use Rattle.std.proofs.lemmas.Bool.{cases_lt}
 use mathlib.Core.Logic.{⊎_elim}
+use Rattle.dcm_lemmas.proofs.Options.{known_nothing}
 use Rattle.dcm_devices.specs.Device.{Puts, AppendsFront}
 use Rattle.dcm_base.specs.declared.vr.Vr.{Vr}
 use Rattle.dcm_base.specs.Tables.Representation.{pad}
 use Rattle.dcm_base.specs.Dump.ValueText.{unpadded}
 use Rattle.dcm_base.specs.Steps.Steps.{outputs, Goes}
 use Rattle.dcm_base.proofs.Writes.Runs.{outputs-append}
-use Rattle.dcm_devices.proofs.Writes.Puts.{append_known_none, puts_behind, puts_err, front_longer}
+use Rattle.dcm_devices.proofs.Writes.Puts.{puts_behind, puts_err, front_longer}
 use Rattle.dcm_text.specs.Runs.{State, Run, run, joined}
 use Rattle.dcm_value.specs.Decoded.{backslashes}
 use Rattle.dcm_value.specs.Display.{Display, emit, at_once}
@@ -231,7 +232,7 @@ leads_empty p v t e l = subst (Shows p v) e l
 
 pub waits_goes : (p : DecodedProgress) {q : DecodedProgress} (held : Option (List ℕ)) (now : DecodedProgress) (v : List ℕ) → Leads p v q [] → now ≡ q
     → (now ≡ fold step p v) × (held ≡ append_known held (outputs step writes p v))
-waits_goes p {q} held now v l state = (state ∙ sym l.state, sym (ap (append_known held) (l.bytes ∙ once_none p.display.mode) ∙ append_known_none held))
+waits_goes p {q} held now v l state = (state ∙ sym l.state, sym (ap (append_known held) (l.bytes ∙ once_none p.display.mode) ∙ known_nothing held))
 
 -- ---- the end
 

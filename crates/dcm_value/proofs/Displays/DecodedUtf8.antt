@@ -5,7 +5,7 @@ use Rattle.std.specs.Str.{IsCharBoundary}
 use Rattle.std.specs.Char.{encode_utf8}
 use Rattle.std.specs.List.{list_all}
 use Rattle.std.specs.Option.{option_map_or}
-use Rattle.std.proofs.lemmas.Bool.{and_parts, false≢true, cases_Bool, cases_lt, cond-true, cond-false}
+use Rattle.std.proofs.lemmas.Bool.{and_parts, cases_Bool, cases_lt, cond-true, cond-false}
 use Rattle.std.proofs.lemmas.Bool.Decides.{nat_tests}
 use Rattle.std.proofs.lemmas.Grind.{flat_map-append}
 use Rattle.std.proofs.lemmas.List.{length-append, take-append-drop, get_or-append-add, get_or_past}
@@ -13,6 +13,7 @@ use Rattle.std.proofs.lemmas.List.Folds.{list_all-append}
 use Rattle.std.proofs.lemmas.Str.{IsUtf8-append, IsUtf8-take, IsUtf8-from_ascii}
 use Rattle.std.proofs.Math.Seq.{get_or-append_right, take-append_seam}
 use mathlib.Core.Logic.{⊎_elim}
+use Rattle.dcm_lemmas.proofs.Truth.{true_false}
 use Rattle.dcm_base.specs.declared.vr.Vr.{Vr}
 use Rattle.dcm_base.specs.declared.mode.Mode.{Mode}
 use Rattle.dcm_base.specs.declared.mode.Mode.TheVariants.{Short, Full}
@@ -123,9 +124,6 @@ record Four (d : List ℕ) (i : ℕ) : Type 0 where
   three : At d (i + 2)
   four : At d (i + 3)
 
-neither : (b : Bool) → b ≡ true → b ≡ false → ⊥
-neither b e f = false≢true (sym f ∙ e)
-
 among : (d : List ℕ) (i n : ℕ) → Four d i → i < n → n ≤ i + 3 → At d n
 among d i n f l m =
     ⊎_elim
@@ -142,9 +140,9 @@ none_in first tail rest few starts next none i f =
     let d : List ℕ = first ∷ (tail ++ rest) in
     let n : ℕ = length (first ∷ tail) in
     ⊎_elim
-    (λ zero_. neither (goes_on first) (subst (At d) (let e : i ≡ 0 = omega arith in e) f.one) starts)
+    (λ zero_. true_false (goes_on first) (subst (At d) (let e : i ≡ 0 = omega arith in e) f.one) starts)
     (λ some. ⊎_elim
-    (λ within. neither (goes_on (slice_index d n)) (among d i n f within (omega arith)) (ap goes_on (at_rest n (omega arith) ∙ ap (λ k. slice_index rest k) (let e : n - n ≡ 0 = omega arith in e)) ∙ next))
+    (λ within. true_false (goes_on (slice_index d n)) (among d i n f within (omega arith)) (ap goes_on (at_rest n (omega arith) ∙ ap (λ k. slice_index rest k) (let e : n - n ≡ 0 = omega arith in e)) ∙ next))
     (λ past. none (i - n) (record {
       one = in_rest i (i - n) past (omega arith) f.one;
       two = in_rest (i + 1) (i - n + 1) (omega arith) (omega arith) f.two;
@@ -161,7 +159,7 @@ none_in first tail rest few starts next none i f =
     in_rest k j l e h = sym (ap goes_on (at_rest k l ∙ ap (λ x. slice_index rest x) e)) ∙ h
 
 no_four : (cs : List ℕ) (i : ℕ) → Four (encode_utf8_all cs) i → ⊥
-no_four [] i f = neither (goes_on (slice_index [] i)) f.one (ap goes_on (get_or_past [] i 0 (omega arith)))
+no_four [] i f = true_false (goes_on (slice_index [] i)) f.one (ap goes_on (get_or_past [] i 0 (omega arith)))
 no_four (c ∷ cs) i f =
     let b = begins c in
     none_in b.first b.tail (encode_utf8_all cs) b.few b.starts (chars_start cs) (λ j h. no_four cs j h) i
@@ -198,14 +196,14 @@ cut_boundary d u long =
 
 -- ---- a display
 
-low_utf8 : (d : List ℕ) → list_all low d ≡ true → IsUtf8 d
+pub low_utf8 : (d : List ℕ) → list_all low d ≡ true → IsUtf8 d
 low_utf8 d e = IsUtf8-from_ascii d (low_ascii d e)
 
-spaces_low : (n : ℕ) → list_all low (replicate n 32) ≡ true
+pub spaces_low : (n : ℕ) → list_all low (replicate n 32) ≡ true
 spaces_low zero = refl
 spaces_low (suc n) = spaces_low n
 
-padded_utf8 : (d : List ℕ) → IsUtf8 d → IsUtf8 (padded d)
+pub padded_utf8 : (d : List ℕ) → IsUtf8 d → IsUtf8 (padded d)
 padded_utf8 d u = IsUtf8-append d (replicate (40 - length d) 32) u (low_utf8 (replicate (40 - length d) 32) (spaces_low (40 - length d)))
 
 cut_utf8 : (d : List ℕ) → IsUtf8 d → 66 < length d → IsUtf8 (take (cut_size d) d ++ codes "...")

@@ -4,33 +4,27 @@ use Rattle.std.proofs.lemmas.Bool.{cases_lt, false≢true}
 use mathlib.Core.Logic.{⊎_elim}
 use Rattle.std.specs.Prelude.{IsErr, OnOk}
 use Rattle.std.specs.Option.{option_map_or}
+use Rattle.dcm_lemmas.proofs.Lists.{take_twice}
+use Rattle.std.proofs.lemmas.List.{take_all, take-append-le, take-append-drop, length-append, append-nil}
+use Rattle.dcm_lemmas.proofs.Options.{known_nothing, known_twice}
 use Rattle.dcm_base.specs.Tables.Uid.{uid_name}
 use Rattle.std.specs.Io.KnownBytes.{append_known}
-use Rattle.std.proofs.lemmas.List.{take-append-le, take-append-drop, length-take, length-append, append-nil}
 use Rattle.dcm_base.specs.declared.mode.Mode.{Mode}
 use Rattle.dcm_base.specs.declared.mode.Mode.TheVariants.{Short, Full}
 use Rattle.dcm_devices.specs.Device.{AppendsFront, Puts}
 use Rattle.dcm_base.specs.Dump.ValueText.{escape, escaped, identified, bracketed}
 use Rattle.std.proofs.lemmas.Grind.{flat_map-append}
-use Rattle.dcm_devices.proofs.Writes.Puts.{append_known_twice, append_known_none, puts_behind, puts_err, front_longer}
+use Rattle.dcm_devices.proofs.Writes.Puts.{puts_behind, puts_err, front_longer}
 use Rattle.dcm_value.specs.Display.{Display, emit, front_after, front_size, at_once, is_short}
 use Rattle.dcm_value.specs.Emits.{Emits}
 use Rattle.dcm_devices.specs.Writing.{Writer}
-use Rattle.dcm_value.proofs.Displays.Facts.{take_within}
-
-pub take_take : (n : ℕ) (xs ys : List ℕ) → take n (take n xs ++ ys) ≡ take n (xs ++ ys)
-take_take n xs ys =
-    ⊎_elim
-    (λ l. ap (λ zs. take n (zs ++ ys)) (take_within n xs (let e : length xs ≤ n = omega arith in e)))
-    (λ l. take-append-le n (take n xs) ys (omega (arith, length-take n xs)) ∙ take_within n (take n xs) (omega (arith, length-take n xs)) ∙ sym (take-append-le n xs ys l))
-    (cases_lt (length xs) n)
 
 -- a record of what is shown, from its parts
 pub same_display : (mode : Mode) (s t : ℕ) (f g : List ℕ) → s ≡ t → f ≡ g → (let d : Display = record { mode = mode; shown = s; front = f } in d) ≡ record { mode = mode; shown = t; front = g }
 same_display mode s t f g p q = λ i. record { mode = mode; shown = p i; front = q i }
 
 front_twice : (mode : Mode) (f t u : List ℕ) → front_after mode (front_after mode f t) u ≡ front_after mode f (t ++ u)
-front_twice Short f t u = take_take 66 (f ++ t) u ∙ ap (take 66) (append_assoc f t u)
+front_twice Short f t u = take_twice 66 (f ++ t) u ∙ ap (take 66) (append_assoc f t u)
 front_twice Full f t u = refl
 
 -- two pieces are one
@@ -46,7 +40,7 @@ pub emit_settled : (d : Display) (t : List ℕ) → IsSettled (emit d t)
 emit_settled d t = emit_twice d t [] ∙ ap (emit d) (append-nil t)
 
 front_none : (mode : Mode) (n : ℕ) (f : List ℕ) → length f ≡ front_size mode n → front_after mode f [] ≡ f
-front_none Short n f e = ap (take 66) (append-nil f) ∙ take_within 66 f (omega arith)
+front_none Short n f e = ap (take 66) (append-nil f) ∙ take_all 66 f (omega arith)
 front_none Full n f e = refl
 
 -- a display that is capped and filled
@@ -60,7 +54,7 @@ unfolding emit
 cut_stays Full n f t l e c = absurd (false≢true c)
 cut_stays Short n f t l e c =
     ⊎_elim
-    (λ long. same_display Short _ _ _ _ (let h : min 67 (n + length t) ≡ n = omega arith in h) (take-append-le 66 f t (omega arith) ∙ take_within 66 f (omega arith)))
+    (λ long. same_display Short _ _ _ _ (let h : min 67 (n + length t) ≡ n = omega arith in h) (take-append-le 66 f t (omega arith) ∙ take_all 66 f (omega arith)))
     (λ short. absurd (false≢true (sym (le-ltb 66 n short) ∙ c)))
     (cases_lt 66 n)
 
@@ -100,7 +94,7 @@ part_more {d} {now} {old} {holds} {whole} after new t rest both p split more one
       one
       ∙ ap (λ m. append_known holds (at_once m t)) (same_mode d now p.front p.shown)
       ∙ ap (λ known. append_known known (at_once d.mode t)) p.out
-      ∙ append_known_twice old (at_once d.mode p.front) (at_once d.mode t)
+      ∙ known_twice old (at_once d.mode p.front) (at_once d.mode t)
       ∙ ap (append_known old) (sym (once_append d.mode p.front t));
 }
 
@@ -133,7 +127,7 @@ part_cut {d} {now} {old} {holds} {whole} rest p cut stays =
 
 -- nothing is shown yet
 pub part_starts : (d : Display) (old : Option (List ℕ)) (whole : List ℕ) → IsSettled d → PartShown d d old old whole whole
-part_starts d old whole settled = record { front = []; all = refl; shown = sym settled; out = sym (ap (append_known old) (once_none d.mode) ∙ append_known_none old) }
+part_starts d old whole settled = record { front = []; all = refl; shown = sym settled; out = sym (ap (append_known old) (once_none d.mode) ∙ known_nothing old) }
 
 -- a text in two parts
 pub escaped_split : (rest front back : List ℕ) (n : ℕ) → front ≡ take n rest → back ≡ drop n rest → escaped rest ≡ escaped front ++ escaped back

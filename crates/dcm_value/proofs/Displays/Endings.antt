@@ -2,13 +2,12 @@
 use Rattle.std.proofs.Common.{◌≡◌, ◌≤◌, ◌<◌, ℕ, ◌+◌, ◌-◌, min, List, ◌++◌, length, take, drop, replicate, codes, ap, sym, ◌∙◌, arith, append_assoc, cond, lt-ltb, le-ltb}
 use Rattle.std.proofs.lemmas.Bool.{cases_lt}
 use mathlib.Core.Logic.{⊎_elim}
-use Rattle.std.proofs.lemmas.List.{take-append-le, take-append-drop, length-take, length-append, append-nil}
+use Rattle.std.proofs.lemmas.List.{take-append-le, take-append-drop, length-take, length-append, append-nil, take_all}
 use Rattle.dcm_base.specs.declared.mode.Mode.{Mode}
 use Rattle.dcm_base.specs.declared.mode.Mode.TheVariants.{Short, Full}
 use Rattle.dcm_base.specs.Dump.ValueText.{padded, shortened}
 use Rattle.dcm_value.specs.Display.{blank, emit, at_once, ending}
 use Rattle.dcm_value.specs.Progress.{Progress, closing, finishes}
-use Rattle.dcm_value.proofs.Displays.Facts.{take_within}
 use Rattle.dcm_value.proofs.Displays.Emits.{emit_twice, emit_mode, once_append}
 
 -- the first 63 bytes of the first 66
@@ -28,7 +27,7 @@ pub short_ends : (d : List ℕ) → length d ≤ 66 → ending (emit (blank Shor
 unfolding emit
 short_ends d l =
     ap (λ b. cond b (take 63 (take 66 d) ++ codes "...") (padded (take 66 d))) (le-ltb 66 (min 67 (0 + length d)) (omega arith))
-    ∙ ap padded (take_within 66 d l)
+    ∙ ap padded (take_all 66 d l)
     ∙ sym (ap (λ b. padded (cond b (take 63 d ++ codes "...") d)) (le-ltb 66 (length d) l))
 
 -- at once and in the end

@@ -1,15 +1,11 @@
 -- Facts on what is shown of a value.
 use Rattle.std.proofs.Common.{◌≡◌, ◌≤◌, ℕ, ◌+◌, ◌-◌, min, replicate, List, [], ◌∷◌, ◌++◌, length, take, drop, ap, sym, ◌∙◌, arith, subst, slice_index_or, Result, Ok, Err}
 use Rattle.std.specs.Prelude.{OnOk, OnErr}
+use Rattle.std.proofs.lemmas.List.{take_all, take_min, length-take, length-append, drop-replicate, take-append-le}
 use Rattle.dcm_base.specs.declared.mode.Mode.{Mode}
 use Rattle.dcm_base.specs.declared.mode.Mode.TheVariants.{Short, Full}
 use Rattle.dcm_value.specs.Display.{front_size}
-use Rattle.std.proofs.lemmas.List.{take_min, length-take, length-append, drop-replicate, take-append-le}
-use Rattle.std.proofs.Math.Seq.{take-append-add, take-length}
-
--- what is short enough is left whole
-pub take_within : (n : ℕ) (xs : List ℕ) → length xs ≤ n → take n xs ≡ xs
-take_within n xs h = sym (take_min n xs) ∙ ap (λ k. take k xs) (let e : min n (length xs) ≡ length xs = omega arith in e) ∙ take-length xs
+use Rattle.std.proofs.Math.Seq.{take-append-add}
 
 -- as many of the bytes as there is room for
 pub fills : (n room : ℕ) (xs ys : List ℕ) → room + length xs ≡ n → xs ++ take (min room (length ys)) ys ≡ take n (xs ++ ys)
@@ -18,10 +14,10 @@ fills n room xs ys e =
 
 -- a byte alone, where there is room
 fills_byte : (xs new : List ℕ) (byte : ℕ) {T E : Type 0} (r : Result T E) → OnOk r (new ≡ xs ++ byte ∷ []) → length new ≤ 66 → OnErr r (new ≡ xs) → OnErr r (length xs ≡ 66) → new ≡ take 66 (xs ++ byte ∷ [])
-fills_byte xs new byte (Ok x) ok fits err full = ok ∙ sym (take_within 66 (xs ++ byte ∷ []) (subst (λ l. length l ≤ 66) ok fits))
+fills_byte xs new byte (Ok x) ok fits err full = ok ∙ sym (take_all 66 (xs ++ byte ∷ []) (subst (λ l. length l ≤ 66) ok fits))
 fills_byte xs new byte (Err x) ok fits err full =
     let e : length xs ≡ 66 = full in
-    err ∙ sym (take_within 66 xs (let l : length xs ≤ 66 = omega arith in l)) ∙ sym (take-append-le 66 xs (byte ∷ []) (omega arith))
+    err ∙ sym (take_all 66 xs (let l : length xs ≤ 66 = omega arith in l)) ∙ sym (take-append-le 66 xs (byte ∷ []) (omega arith))
 
 pub fills_one : (xs ys new : List ℕ) {T E : Type 0} (r : Result T E) → length ys ≡ 1 → OnOk r (new ≡ xs ++ slice_index_or ys 0 0 ∷ []) → length new ≤ 66 → OnErr r (new ≡ xs) → OnErr r (length xs ≡ 66) → new ≡ take 66 (xs ++ ys)
 fills_one xs [] new r one ok fits err full = absurd cc

@@ -3,6 +3,7 @@ use Rattle.std.proofs.Common.{◌≡◌, ◌<◌, ℕ, ◌+◌, ◌==◌, ◌&&�
 use Rattle.std.proofs.lemmas.Bool.{cases_Bool, cases_lt, false≢true}
 use Rattle.std.proofs.lemmas.List.Sums.{fold-append}
 use mathlib.Core.Logic.{⊎_elim}
+use Rattle.dcm_lemmas.proofs.Truth.{and_last_false}
 use Rattle.dcm_base.specs.Steps.Steps.{outputs}
 use Rattle.dcm_base.proofs.Writes.Runs.{outputs-append}
 use Rattle.dcm_value.specs.Display.{Display, emit, at_once}
@@ -35,11 +36,6 @@ pub ready_fold : (p : Progress) (v : List ℕ) → IsReady p → IsReady (fold s
 ready_fold p [] r = r
 ready_fold p (b ∷ bs) r = ready_fold (step p b) bs (ready_step p b r)
 
-pub and_none : (a b : Bool) → (a && (b && false)) ≡ false
-and_none true true = refl
-and_none true false = refl
-and_none false b = refl
-
 pub ready_opened : (p : Progress) → IsReady (opened p)
 unfolding opened emit
 ready_opened p = record { is_opened = is_opened; settled = emit_settled p.display (opening p) }
@@ -50,7 +46,7 @@ ready_opened p = record { is_opened = is_opened; settled = emit_settled p.displa
         (λ t.
         let some : 0 < min 67 (p.display.shown + length (opening p)) = (let long : length (opening p) ≡ 1 = ap (λ x. length (cond x (codes "[") [])) t in omega arith) in
         ap (λ x. is_bracketed (way p) && (nat_lt 0 p.size && x)) (ne_eqb (min 67 (p.display.shown + length (opening p))) 0 (λ e. omega (arith, e)))
-        ∙ and_none (is_bracketed (way p)) (nat_lt 0 p.size))
+        ∙ and_last_false (is_bracketed (way p)) (nat_lt 0 p.size))
         (λ f. still (is_bracketed (way p)) (nat_lt 0 p.size) p.display.shown _ (shown_more p.display (opening p)) f)
         (cases_Bool (is_unopened p))
 

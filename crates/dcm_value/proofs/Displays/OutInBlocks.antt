@@ -4,9 +4,10 @@ use Rattle.std.specs.Prelude.{IsErr, flat_map}
 use Rattle.std.specs.Io.KnownBytes.{append_known}
 use Rattle.std.proofs.lemmas.Bool.Decides.{nat_tests}
 use Rattle.std.proofs.lemmas.List.{length-append}
+use Rattle.dcm_lemmas.proofs.Options.{known_nothing, known_twice}
 use Rattle.dcm_base.specs.Dump.ValueText.{padded}
 use Rattle.dcm_devices.specs.Device.{AppendsFront, Puts}
-use Rattle.dcm_devices.proofs.Writes.Puts.{append_known_twice, append_known_none, puts_behind}
+use Rattle.dcm_devices.proofs.Writes.Puts.{puts_behind}
 use Rattle.dcm_devices.proofs.Writes.PartsOut.{parts_put, part_failed}
 use Rattle.dcm_text.specs.Decoding.{Piece}
 use Rattle.dcm_text.specs.Shown.{dumped_piece}
@@ -19,7 +20,7 @@ pub record Out (old now : Option (List ℕ)) (all left : List ℕ) : Type 0 wher
   pub grown : now ≡ append_known old front
 
 pub out_none : (old : Option (List ℕ)) (all : List ℕ) → Out old old all all
-out_none old all = record { front = []; whole = refl; grown = sym (append_known_none old) }
+out_none old all = record { front = []; whole = refl; grown = sym (known_nothing old) }
 
 -- these bytes more
 pub out_more : {old now : Option (List ℕ)} {all left : List ℕ} (new : Option (List ℕ)) (bytes rest : List ℕ) → Out old now all left
@@ -27,7 +28,7 @@ pub out_more : {old now : Option (List ℕ)} {all left : List ℕ} (new : Option
 out_more {old} {now} {all} {left} new bytes rest p split more = record {
   front = p.front ++ bytes;
   whole = p.whole ∙ ap (λ xs. p.front ++ xs) split ∙ sym (append_assoc p.front bytes rest);
-  grown = more ∙ ap (λ known. append_known known bytes) p.grown ∙ append_known_twice old p.front bytes;
+  grown = more ∙ ap (λ known. append_known known bytes) p.grown ∙ known_twice old p.front bytes;
 }
 
 -- the next bytes did not all go out, or all that is left did

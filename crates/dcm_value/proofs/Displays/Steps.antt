@@ -2,6 +2,7 @@
 use Rattle.std.proofs.Common.{◌≡◌, ◌<◌, ℕ, zero, suc, ◌+◌, ◌*◌, ◌%◌, ◌==◌, ◌&&◌, List, [], ◌∷◌, ◌++◌, length, take, drop, codes, ap, sym, ◌∙◌, arith, refl, append_assoc, cond, false, Bool, fold, eq-eqb, ne_eqb, subst, suc-mul, get_or}
 use Rattle.std.specs.Prelude.{count_by, Option, Result, Ok, Err, OnOk, IsErr}
 use Rattle.std.specs.Io.KnownBytes.{append_known}
+use Rattle.dcm_lemmas.proofs.Options.{known_nothing}
 use Rattle.dcm_devices.specs.Device.{Puts, AppendsFront}
 use Rattle.std.proofs.lemmas.List.{length-append, append-nil, take-append-drop, length-take, length-drop}
 use Rattle.std.proofs.lemmas.List.Sums.{fold-append, sum_by-cons}
@@ -9,7 +10,7 @@ use Rattle.dcm_base.specs.Tables.Representation.{pad}
 use Rattle.dcm_base.specs.Steps.Steps.{outputs, Goes}
 use Rattle.dcm_base.specs.Tree.Value.{pieces}
 use Rattle.dcm_base.specs.Dump.ValueText.{shown_unit, escape, escaped}
-use Rattle.dcm_devices.proofs.Writes.Puts.{append_known_none, puts_behind, puts_err, front_longer}
+use Rattle.dcm_devices.proofs.Writes.Puts.{puts_behind, puts_err, front_longer}
 use Rattle.dcm_base.proofs.Writes.Runs.{outputs-append}
 use Rattle.std.proofs.Math.Seq.{take-length}
 use Rattle.std.proofs.lemmas.List.{take_more}
@@ -176,7 +177,7 @@ shown_further p now n h k t (Err x) same state = tt
 
 -- one that shows nothing
 pub waits_goes : (p : Progress) (held : Option (List ℕ)) (now : Progress) (v : List ℕ) → Leads p v (waits p v) [] → now ≡ waits p v → (now ≡ fold step p v) × (held ≡ append_known held (outputs step writes p v))
-waits_goes p held now v l state = (state ∙ sym l.state, sym (ap (append_known held) (l.bytes ∙ once_none p.display.mode) ∙ append_known_none held))
+waits_goes p held now v l state = (state ∙ sym l.state, sym (ap (append_known held) (l.bytes ∙ once_none p.display.mode) ∙ known_nothing held))
 
 -- the bytes before the last, and the last
 pub last_apart : (xs : List ℕ) (n : ℕ) → n + 1 ≡ length xs → xs ≡ take n xs ++ get_or xs n 0 ∷ []

@@ -1,26 +1,19 @@
 -- Bytes of a text that are stored sixteen at a time.
 use Rattle.std.proofs.Common.{◌≡◌, ◌≤◌, ◌<◌, ℕ, zero, suc, ◌+◌, ◌-◌, ◌%◌, ◌^◌, ◌&&◌, Bool, true, false, not, cond, List, [], ◌∷◌, ◌++◌, map, length, take, drop, take-add, get_or, refl, sym, ap, ◌∙◌, arith, Fits, w8}
-use Rattle.std.specs.List.{list_all, prefix_len}
-use Rattle.std.proofs.lemmas.Bool.{agree_below, agree_below_at}
+use Rattle.std.specs.List.{list_all}
+use Rattle.std.proofs.lemmas.Bool.{agree_below}
 use Rattle.std.proofs.lemmas.Grind.{flat_map-append}
 use Rattle.std.proofs.lemmas.Simd.{map-map, mask_l-mod, first_set_mask_l}
-use Rattle.std.proofs.lemmas.List.{length-map, length-drop, take-append-drop}
+use Rattle.std.proofs.lemmas.List.{length-map, take-append-drop}
 use Rattle.std.proofs.lemmas.List.Sums.{prefix_len-le-length}
 use lib.Lanes.{mask_l, top, Each1, put_chunk}
+use Rattle.dcm_lemmas.proofs.Lists.{same_prefix, tail_is}
 use Rattle.dcm_base.specs.Dump.ValueText.{escape, escaped}
 use Rattle.dcm_value.specs.Plain.{is_plain_byte, plain_size, lowest_of_sixteen}
-use Rattle.dcm_value.proofs.Displays.Facts.{take_within}
 use Rattle.dcm_value.proofs.Displays.PlainTexts.{plain_escaped}
 use Rattle.dcm_value.proofs.UnitOrder.Woven.{stored_part}
 
 -- ---- how many are shown as they are
-
--- tests that agree on each byte find as many in front
-same_prefix : (p q : ℕ → Bool) (v : List ℕ) → agree_below p q 256 ≡ true → Each1 (Fits w8) v → prefix_len p v ≡ prefix_len q v
-same_prefix p q [] all fits = refl
-same_prefix p q (x ∷ xs) all fits =
-    ap (λ (t : Bool). cond t (1 + prefix_len p xs) 0) (agree_below_at p q 256 x all fits.0.fits)
-    ∙ ap (λ (n : ℕ). cond (q x) (1 + n) 0) (same_prefix p q xs all fits.1)
 
 module _ (v z : List ℕ) (r : ℕ) (long : length v ≡ 16) (fits : Each1 (Fits w8) v)
     (found : r ≡ lowest_of_sixteen (mask_l (map (top 7) z) % 2 ^ 64)) (f : ℕ → ℕ) (lanes : z ≡ map f v)
@@ -92,15 +85,11 @@ escaped_one n byte v l is =
 escaped_behind : (at n : ℕ) (v : List ℕ) → escaped (take (at + n) v) ≡ escaped (take at v) ++ escaped (take n (drop at v))
 escaped_behind at n v = ap escaped (take-add at n v) ∙ flat_map-append escape (take at v) (take n (drop at v))
 
--- as a slice gives them
-all_behind : (at : ℕ) (v : List ℕ) → take (length v - at) (drop at v) ≡ drop at v
-all_behind at v = take_within (length v - at) (drop at v) (omega (arith, length-drop at v))
-
 pub escaped_slice : (at n : ℕ) (v : List ℕ) → escaped (take (at + n) v) ≡ escaped (take at v) ++ escaped (take n (take (length v - at) (drop at v)))
-escaped_slice at n v = escaped_behind at n v ∙ ap (λ xs. escaped (take at v) ++ escaped (take n xs)) (sym (all_behind at v))
+escaped_slice at n v = escaped_behind at n v ∙ ap (λ xs. escaped (take at v) ++ escaped (take n xs)) (sym (tail_is at v))
 
 pub escaped_rest : (at : ℕ) (v : List ℕ) → escaped v ≡ escaped (take at v) ++ escaped (take (length v - at) (drop at v))
 escaped_rest at v =
     ap escaped (sym (take-append-drop at v))
     ∙ flat_map-append escape (take at v) (drop at v)
-    ∙ ap (λ xs. escaped (take at v) ++ escaped xs) (sym (all_behind at v))
+    ∙ ap (λ xs. escaped (take at v) ++ escaped xs) (sym (tail_is at v))

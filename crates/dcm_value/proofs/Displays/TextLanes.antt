@@ -2,12 +2,11 @@
 use Rattle.std.proofs.Common.{◌≡◌, ◌<◌, ℕ, zero, suc, ◌+◌, ◌*◌, ◌/◌, ◌^◌, ◌==◌, ◌&&◌, ◌||◌, not, cond, eqb, eqb-true, ltb, Bool, true, false, List, [], ◌∷◌, ◌++◌, length, take, drop, take-add, map, refl, sym, ap, ◌∙◌, arith, append_assoc}
 use Rattle.std.specs.Prelude.{nat_lt, count_by}
 use Rattle.std.specs.List.{list_all, list_any}
-use Rattle.std.proofs.lemmas.List.{take-append-drop, length-drop}
+use Rattle.std.proofs.lemmas.List.{take-append-drop, length-drop, take_all}
 use Rattle.std.proofs.lemmas.List.Sums.{sum_by-append}
 use lib.Lanes.{chunk, mask_l, zip2}
 use lib.ListN.{replicate}
 use lib.Count.{ones}
-use Rattle.dcm_value.proofs.Displays.Facts.{take_within}
 use native.Mathlib.Nat.{div-one, zero-div, pow-suc, mul_comm, div-div-eq-div-mul}
 use Rattle.std.proofs.lemmas.Simd.{ones-mask_l}
 use Rattle.std.proofs.lemmas.Grind.{flat_map-append}
@@ -163,7 +162,7 @@ not_twice false = refl
 
 -- the last eight bytes
 pub last_lanes : (v last : List ℕ) (n : ℕ) → last ≡ drop n v → n + 8 ≡ length v → chunk 0 8 last ≡ drop n v
-last_lanes v last n e long = ap (take 8) e ∙ take_within 8 (drop n v) (omega (arith, length-drop n v))
+last_lanes v last n e long = ap (take 8) e ∙ take_all 8 (drop n v) (omega (arith, length-drop n v))
 
 -- a mask without its first bits
 half : (m : Bool) (n : ℕ) → (cond m 1 0 + 2 * n) / 2 ≡ n

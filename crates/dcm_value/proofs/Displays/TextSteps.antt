@@ -2,10 +2,11 @@
 use Rattle.std.proofs.Common.{◌≡◌, ◌≤◌, ◌<◌, ℕ, ◌+◌, ◌-◌, ◌/◌, ◌%◌, ◌==◌, ◌&&◌, List, [], ◌∷◌, ◌++◌, length, take, codes, ap, sym, ◌∙◌, arith, refl, cond, true, false, Bool, nat_lt, slice_index}
 use Rattle.std.specs.Prelude.{count_by, bytes_eq, find, Some, None, option_map}
 use Rattle.std.specs.Option.{option_map_or}
-use Rattle.std.proofs.lemmas.Bool.{false≢true, ltb-true, le-leb, lt-leb}
+use Rattle.std.proofs.lemmas.Bool.{ltb-true, le-leb, lt-leb}
 use Rattle.std.proofs.lemmas.Bool.Decides.{leb_tells}
 use mathlib.Core.Logic.{⊎_elim}
 use Rattle.std.proofs.lemmas.List.{length-append, length-take}
+use Rattle.dcm_lemmas.proofs.Truth.{and_parts}
 use Rattle.dcm_base.specs.declared.vr.Vr.{Vr}
 use Rattle.dcm_base.specs.declared.vr.Vr.TheVariants.{AE, AS, AT, CS, DA, DS, DT, FD, FL, IS, LO, LT, OB, OD, OF, OL, OV, OW, PN, SH, SL, SQ, SS, ST, SV, TM, UC, UI, UL, UN, UR, US, UT, UV}
 use Rattle.dcm_base.specs.declared.syntax.Syntax.{Syntax}
@@ -16,7 +17,7 @@ use Rattle.dcm_base.specs.Tables.Uid.{Named, uid_name, uids, name_in}
 use Rattle.dcm_base.specs.Tree.Value.{order, turned}
 use Rattle.dcm_base.specs.Dump.ValueText.{Shape, text, identifier, unsigned, signed, tags, hexadecimal, shape, text_of, padded, shortened, display, shown, count, counted, is_single, shown_so_far, shown_unit, escaped, bracketed, identified, unpadded, units_text}
 use Rattle.dcm_base.proofs.Conversions.OrderLaws.{turned_bytes}
-use Rattle.dcm_base.proofs.Conversions.Order.{length-order}
+use Rattle.dcm_base.proofs.Conversions.Order.{length-order, order_none}
 use Rattle.dcm_value.specs.declared.way.Way.TheVariants.{InBrackets, ByName, InUnits}
 use Rattle.dcm_value.specs.Way.{way_of}
 use Rattle.dcm_value.specs.Display.{at_once}
@@ -112,13 +113,6 @@ one_order (implicit_in d) vr v e = refl
 one_order (little_in d) vr v e = refl
 one_order (big_in d) vr v e = ap (λ k. turned k v) e ∙ turned_bytes v
 
-pub ordered_none : (syntax : Syntax) (vr : Vr) → order syntax vr [] ≡ []
-ordered_none syntax vr = none (order syntax vr []) (length-order syntax vr [])
-  where
-    none : (v : List ℕ) → length v ≡ 0 → v ≡ []
-    none [] e = refl
-    none (x ∷ xs) e = absurd (omega arith)
-
 -- the bytes before the last, and the last
 pub record Last (v : List ℕ) : Type 0 where
   pub init : List ℕ
@@ -156,14 +150,10 @@ short_uids : are_short uids ≡ true
 unfolding uids
 short_uids = refl
 
-both : (a b : Bool) → a && b ≡ true → (a ≡ true) × (b ≡ true)
-both true b e = (refl, e)
-both false b e = absurd (false≢true e)
-
 none_named : (us : List Named) (uid : List ℕ) → are_short us ≡ true → 64 ≤ length uid → name_in us uid ≡ None
 none_named [] uid e l = refl
 none_named (u ∷ us) uid e l =
-    let parts = both (nat_lt (length u.0) 64) (are_short us) e in
+    let parts = and_parts (nat_lt (length u.0) 64) (are_short us) e in
     let short : length u.0 < 64 = ltb-true (length u.0) 64 parts.0 in
     ap (λ t. option_map (λ (x : Named). x.1) (cond t (Some u) (find (λ x. bytes_eq x.0 uid) us))) (shorter u.0 uid (omega arith))
     ∙ none_named us uid parts.1 l
@@ -236,12 +226,12 @@ module _ (vr : Vr) (syntax : Syntax) (mode : Mode) where
   pub whole_none : written vr syntax 0 mode [] ++ finishes (after vr syntax 0 mode []) ≡ text_of mode vr (order syntax vr [])
   whole_none =
       tells_whole vr syntax 0 mode [] unopened_none [] (begun vr syntax 0 mode []) [] (leads_nowhere (begun vr syntax 0 mode [])) refl
-      ∙ ap (λ v. text_of mode vr v) (sym (ordered_none syntax vr))
+      ∙ ap (λ v. text_of mode vr v) (sym (order_none syntax vr))
 
   pub count_none : multiplicity (after vr syntax 0 mode []) ≡ count vr (order syntax vr [])
   count_none =
       ap multiplicity (tells_state vr syntax 0 mode [] unopened_none [] (begun vr syntax 0 mode []) [] (leads_nowhere (begun vr syntax 0 mode [])))
-      ∙ ap (count vr) (sym (ordered_none syntax vr))
+      ∙ ap (count vr) (sym (order_none syntax vr))
 
   -- how many values there are
   count_one : (b : ℕ) (bs : List ℕ) → multiplicity (after vr syntax (length (b ∷ bs)) mode (b ∷ bs)) ≡ count vr (order syntax vr (b ∷ bs))

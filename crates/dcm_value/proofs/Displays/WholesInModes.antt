@@ -3,6 +3,7 @@ use Rattle.std.proofs.Common.{◌≡◌, ◌≤◌, ◌<◌, ℕ, ◌+◌, ◌==
 use Rattle.std.specs.Prelude.{count_by}
 use Rattle.std.proofs.lemmas.Bool.{false≢true}
 use Rattle.std.proofs.lemmas.List.{length-append}
+use Rattle.dcm_base.proofs.Conversions.Order.{order_none}
 use Rattle.dcm_base.specs.declared.vr.Vr.{Vr}
 use Rattle.dcm_base.specs.declared.syntax.Syntax.{Syntax}
 use Rattle.dcm_base.specs.declared.mode.Mode.{Mode}
@@ -15,7 +16,7 @@ use Rattle.dcm_value.specs.Laws.{after, written}
 use Rattle.dcm_value.specs.Progress.{finishes, multiplicity}
 use Rattle.dcm_value.specs.Whole.{is_known_as, shown_as, text_in, count_in}
 use Rattle.dcm_value.proofs.Displays.TextLaws.{brackets_whole, brackets_count, name_whole, name_count}
-use Rattle.dcm_value.proofs.Displays.TextSteps.{last_of, whole_none, count_none, ordered_none}
+use Rattle.dcm_value.proofs.Displays.TextSteps.{last_of, whole_none, count_none}
 use Rattle.dcm_value.proofs.Displays.Wholes.{known_length, unpadded_within}
 
 -- what is not cut is the same in both
@@ -63,9 +64,9 @@ module _ (mode : Mode) (vr : Vr) (syntax : Syntax) where
 
   -- one without bytes
   pub none_in : (v : List ℕ) → length v ≡ 0 → text_in mode vr syntax v ≡ padded (codes "(no value available)")
-  none_in [] e = whole_none vr syntax mode ∙ ap (text_of mode vr) (ordered_none syntax vr) ∙ uncut mode (codes "(no value available)") (omega arith)
+  none_in [] e = whole_none vr syntax mode ∙ ap (text_of mode vr) (order_none syntax vr) ∙ uncut mode (codes "(no value available)") (omega arith)
   none_in (b ∷ bs) e = absurd (omega (arith, e))
 
   pub none_counted_in : (v : List ℕ) → length v ≡ 0 → count_in mode vr syntax v ≡ 0
-  none_counted_in [] e = count_none vr syntax mode ∙ ap (count vr) (ordered_none syntax vr)
+  none_counted_in [] e = count_none vr syntax mode ∙ ap (count vr) (order_none syntax vr)
   none_counted_in (b ∷ bs) e = absurd (omega (arith, e))

@@ -1,6 +1,7 @@
 -- The table of digits.
 use Rattle.std.proofs.Common.{◌≡◌, ◌<◌, ℕ, zero, suc, ◌+◌, ◌*◌, ◌/◌, ◌%◌, ◌==◌, ◌&&◌, Bool, true, false, List, [], ◌∷◌, length, get_or, refl, ap, ◌∙◌, arith, eqb-true}
 use Rattle.std.proofs.lemmas.Bool.{false≢true}
+use Rattle.dcm_lemmas.proofs.Truth.{and_parts}
 use Rattle.dcm_base.specs.Dump.ValueText.{lower, hex_byte}
 use Rattle.dcm_value.specs.declared.units.TheConstants.{DIGITS}
 
@@ -21,20 +22,16 @@ size : length digits ≡ 512
 unfolding digits
 size = refl
 
-both : (a b : Bool) → a && b ≡ true → (a ≡ true) × (b ≡ true)
-both true b e = (refl, e)
-both false b e = absurd (false≢true e)
-
 -- the pair at a place
 in_table : (n b : ℕ) (l : List ℕ) → are_digits b l ≡ true → n + n + 1 < length l → (get_or l (n + n) 0 ≡ lower ((b + n) / 16)) × (get_or l (n + n + 1) 0 ≡ lower ((b + n) % 16))
 in_table n b [] e h = absurd (omega arith)
 in_table n b (x ∷ []) e h = absurd (false≢true e)
 in_table zero b (x ∷ y ∷ rest) e h =
-    let here = both (x == lower (b / 16)) (y == lower (b % 16)) (both _ _ e).0 in
+    let here = and_parts (x == lower (b / 16)) (y == lower (b % 16)) (and_parts _ _ e).0 in
     let same : b ≡ b + 0 = omega arith in
     (eqb-true x (lower (b / 16)) here.0 ∙ ap (λ k. lower (k / 16)) same, eqb-true y (lower (b % 16)) here.1 ∙ ap (λ k. lower (k % 16)) same)
 in_table (suc n) b (x ∷ y ∷ rest) e h =
-    let there = in_table n (suc b) rest (both (x == lower (b / 16) && y == lower (b % 16)) _ e).1 (omega arith) in
+    let there = in_table n (suc b) rest (and_parts (x == lower (b / 16) && y == lower (b % 16)) _ e).1 (omega arith) in
     let first : suc n + suc n ≡ suc (suc (n + n)) = omega arith in
     let second : suc n + suc n + 1 ≡ suc (suc (n + n + 1)) = omega arith in
     let same : suc b + n ≡ b + suc n = omega arith in (

@@ -1,13 +1,15 @@
 -- A value that is read part by part.
-use Rattle.std.proofs.Common.{◌≡◌, ◌≢◌, ◌≤◌, ◌<◌, ℕ, ◌+◌, ◌-◌, ◌==◌, ◌||◌, List, [], ◌∷◌, ◌++◌, length, take, drop, get_or, Option, Some, None, Result, Ok, Err, ap, sym, ◌∙◌, arith, refl, append_assoc, append-nil, cond, true, false, Bool, not, nat_lt, ◌⊎◌, subst, ne_eqb, lt-ltb, le-ltb}
+use Rattle.std.proofs.Common.{◌≡◌, ◌≢◌, ◌≤◌, ◌<◌, ℕ, ◌+◌, ◌-◌, ◌==◌, ◌||◌, List, [], ◌∷◌, ◌++◌, length, take, drop, get_or, Option, Some, None, Result, Ok, Err, ap, sym, ◌∙◌, arith, refl, append_assoc, append-nil, cond, false, not, nat_lt, ◌⊎◌, subst, ne_eqb, lt-ltb, le-ltb}
 use Rattle.std.proofs.Math.Seq.{take-length}
 use mathlib.Core.Logic.{⊎_elim}
 use Rattle.std.specs.Prelude.{MatchResult, IsErr, position}
-use Rattle.std.specs.List.{slice_split, position_or_len, onto_first}
+use Rattle.std.specs.List.{position_or_len}
 use Rattle.std.specs.Str.{byte}
 use Rattle.std.proofs.lemmas.Bool.{le-leb, lt-leb, cases_lt}
 use Rattle.std.proofs.lemmas.List.{length-append}
 use Rattle.std.proofs.lemmas.List.Splits.{slice_split_first}
+use Rattle.dcm_lemmas.proofs.Lists.{one_part}
+use Rattle.dcm_lemmas.proofs.Options.{none_is, some_back}
 use Rattle.dcm_base.specs.declared.vr.Vr.{Vr}
 use Rattle.dcm_base.specs.declared.vr.Vr.TheVariants.{AE, AS, AT, CS, DA, DS, DT, FD, FL, IS, LO, LT, OB, OD, OF, OL, OV, OW, PN, SH, SL, SQ, SS, ST, SV, TM, UC, UI, UL, UN, UR, US, UT, UV}
 use Rattle.dcm_base.specs.Tables.Representation.{unit}
@@ -71,26 +73,10 @@ plain_text v l a b = ap bracketed_value (first_apart v l) ∙ plain_byte (get_or
 pub escaped_text : (P : Option (List ℕ) → Type 0) (v : List ℕ) → 0 < length v → get_or v 0 0 ≡ 37 → P (bracketed_value (37 ∷ take (length v - 1) (drop 1 v))) → P (bracketed_value v)
 escaped_text P v l is p = subst (λ x. P (bracketed_value x)) (ap (λ x. x ∷ take (length v - 1) (drop 1 v)) (sym is) ∙ sym (first_apart v l)) p
 
--- parts between backslashes
-one_part : (p : ℕ → Bool) (xs : List ℕ) → length xs ≤ position_or_len p xs → slice_split p xs ≡ xs ∷ []
-one_part p [] l = refl
-one_part p (x ∷ xs) l = of_test (p x) l (one_part p xs)
-  where
-    of_test : (t : Bool) → length (x ∷ xs) ≤ cond (not t) (1 + position_or_len p xs) 0 → (length xs ≤ position_or_len p xs → slice_split p xs ≡ xs ∷ []) → cond t ([] ∷ slice_split p xs) (onto_first x (slice_split p xs)) ≡ (x ∷ xs) ∷ []
-    of_test true l rec = absurd (omega arith)
-    of_test false l rec = ap (onto_first x) (rec (omega arith))
-
--- the place of the first, where there is one
-some_is : (m n : ℕ) → Some m ≡ Some n → n ≡ m
-some_is m n e = cc
-
-none_is : (m : ℕ) → (let o : Option ℕ = Some m in o ≡ None) → ⊥
-none_is m e = cc
-
 pub some_place : (n m at : ℕ) → cond (nat_lt n m) (Some n) None ≡ Some at → (n < m) × (at ≡ n)
 some_place n m at e =
     ⊎_elim
-    (λ l. (l, some_is n at (sym (ap (λ b. cond b (Some n) None) (lt-ltb n m l)) ∙ e)))
+    (λ l. (l, some_back n at (sym (ap (λ b. cond b (Some n) None) (lt-ltb n m l)) ∙ e)))
     (λ l. absurd (none_is at (sym (sym (ap (λ b. cond b (Some n) None) (le-ltb n m l)) ∙ e))))
     (cases_lt n m)
 

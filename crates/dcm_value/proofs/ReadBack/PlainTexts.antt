@@ -2,6 +2,7 @@
 use Rattle.std.proofs.Common.{◌≡◌, ◌≤◌, ℕ, suc, ◌+◌, ◌==◌, ◌||◌, List, [], ◌∷◌, length, take, drop, Option, Some, None, refl, subst, ap, sym, ◌∙◌, cond, true, false, Bool, not, arith}
 use Rattle.std.specs.Prelude.{position}
 use Rattle.std.specs.List.{position_or_len}
+use Rattle.dcm_lemmas.proofs.Numbers.{one_after}
 use Rattle.dcm_base.specs.Lines.ReadValue.{bracketed_value}
 use Rattle.dcm_value.specs.Taking.{behind}
 use Rattle.dcm_value.proofs.ReadBack.Parts.{plain_byte, some_place, no_place}
@@ -22,9 +23,6 @@ Cut v n = bracketed_value v ≡ behind (take n v) (bracketed_value (drop n v))
 
 plain_more : (x : ℕ) (v : List ℕ) (n : ℕ) → (x == 37) ≡ false → (x == 93) ≡ false → Cut v n → Cut (x ∷ v) (suc n)
 plain_more x v n e f c = plain_byte x v f e ∙ ap (behind (x ∷ [])) c ∙ behind_one x (take n v) (bracketed_value (drop n v))
-
-one_after : (n : ℕ) → suc n ≡ 1 + n
-one_after n = omega arith
 
 one_more : (x : ℕ) (v : List ℕ) (a b : Bool) → (x == 37) ≡ a → (x == 93) ≡ b → Cut v (position_or_len stops_plain v) → Cut (x ∷ v) (cond (not (a || b)) (1 + position_or_len stops_plain v) 0)
 one_more x v true b e f c = behind_nothing (bracketed_value (x ∷ v))

@@ -1,19 +1,20 @@
 -- A text in brackets stands for its bytes, and a name for its identifier.
-use Rattle.std.proofs.Common.{◌≡◌, ◌≤◌, ◌<◌, ℕ, zero, suc, ◌+◌, ◌*◌, ◌/◌, ◌%◌, ◌==◌, ◌&&◌, ◌||◌, List, [], ◌∷◌, ◌++◌, length, codes, Option, Some, None, ap, sym, ◌∙◌, arith, refl, append_assoc, cond, true, false, Bool, nat_lt, subst}
+use Rattle.std.proofs.Common.{◌≡◌, ◌≤◌, ◌<◌, ℕ, zero, suc, ◌+◌, ◌/◌, ◌%◌, ◌==◌, ◌&&◌, ◌||◌, List, [], ◌∷◌, ◌++◌, length, codes, Option, Some, None, ap, sym, ◌∙◌, arith, refl, append_assoc, cond, true, false, Bool, nat_lt, subst}
 use Rattle.std.specs.Prelude.{bytes_eq, find, option_map}
 use Rattle.std.specs.Option.{option_map_or}
 use Rattle.std.proofs.lemmas.Bool.{false≢true, ltb-true, cases_Bool, cases_lt, eqb-true}
 use mathlib.Core.Logic.{⊎_elim}
 use Rattle.std.proofs.lemmas.List.{length-append}
+use Rattle.dcm_base.proofs.DumpsBack.Texts.{byte_digits}
+use Rattle.dcm_base.proofs.DumpsBack.Values.{length-escaped}
+use Rattle.dcm_lemmas.proofs.Lists.{bytes_same}
+use Rattle.dcm_lemmas.proofs.Options.{some_same as some_is_list}
+use Rattle.dcm_lemmas.proofs.Truth.{and_parts}
 use Rattle.dcm_base.specs.Tables.Number.{AreBytes}
 use Rattle.dcm_base.specs.Tables.Uid.{Named, uids, uid_name, uid_of, name_in, uid_in}
 use Rattle.dcm_base.specs.Dump.ValueText.{upper, lower, escape, escaped, bracketed, identified}
-use Rattle.dcm_base.specs.Lines.ReadValue.{◌>>=◌, digit, hex_number, bracketed_value, text_value, uid_value}
+use Rattle.dcm_base.specs.Lines.ReadValue.{◌>>=◌, digit, bracketed_value, text_value, uid_value}
 use Rattle.dcm_value.proofs.ReadBack.Parts.{plain_byte}
-
-both : (a b : Bool) → a && b ≡ true → (a ≡ true) × (b ≡ true)
-both true b e = (refl, e)
-both false b e = absurd (false≢true e)
 
 -- a test of each number below n
 abbrev pub all_below : (ℕ → Bool) → ℕ → Bool
@@ -24,8 +25,8 @@ pub one_below : (t : ℕ → Bool) (n d : ℕ) → all_below t n ≡ true → d 
 one_below t zero d e l = absurd (omega arith)
 one_below t (suc n) d e l =
     ⊎_elim
-    (λ less. one_below t n d (both (t n) (all_below t n) e).1 less)
-    (λ last. let same : d ≡ n = omega arith in ap t same ∙ (both (t n) (all_below t n) e).0)
+    (λ less. one_below t n d (and_parts (t n) (all_below t n) e).1 less)
+    (λ last. let same : d ≡ n = omega arith in ap t same ∙ (and_parts (t n) (all_below t n) e).0)
     (cases_lt d n)
 
 pub some_same : (o : Option ℕ) (d : ℕ) → option_map_or (λ x. x == d) o false ≡ true → o ≡ Some d
@@ -36,20 +37,8 @@ some_same (Some x) d e = ap Some (eqb-true x d e)
 upper_tests : all_below (λ d. option_map_or (λ x. x == d) (digit 16 (upper d)) false) 16 ≡ true
 upper_tests = refl
 
-upper_digit : (d : ℕ) → d < 16 → digit 16 (upper d) ≡ Some d
-upper_digit d l = some_same (digit 16 (upper d)) d (one_below (λ d. option_map_or (λ x. x == d) (digit 16 (upper d)) false) 16 d upper_tests l)
-
 lower_tests : all_below (λ d. option_map_or (λ x. x == d) (digit 16 (lower d)) false) 16 ≡ true
 lower_tests = refl
-
-pub lower_digit : (d : ℕ) → d < 16 → digit 16 (lower d) ≡ Some d
-lower_digit d l = some_same (digit 16 (lower d)) d (one_below (λ d. option_map_or (λ x. x == d) (digit 16 (lower d)) false) 16 d lower_tests l)
-
-two_digits : (b : ℕ) → b < 256 → hex_number 2 (upper (b / 16) ∷ upper (b % 16) ∷ []) ≡ Some b
-two_digits b l =
-    ap (λ o. o >>= λ d. digit 16 (upper (b % 16)) >>= λ e. Some ((0 * 16 + d) * 16 + e)) (upper_digit (b / 16) (omega arith))
-    ∙ ap (λ o. o >>= λ e. Some ((0 * 16 + b / 16) * 16 + e)) (upper_digit (b % 16) (omega arith))
-    ∙ ap Some (let e : (0 * 16 + b / 16) * 16 + b % 16 ≡ b = omega arith in e)
 
 -- the tests of a byte that is escaped
 none_of : (a b c d : Bool) → a || b || c || d ≡ false → (c ≡ false) × (d ≡ false)
@@ -62,7 +51,7 @@ none_of false false false true e = cc
 escape_back : (b : ℕ) (rest : List ℕ) → b < 256 → bracketed_value (escape b ++ rest) ≡ (bracketed_value rest >>= λ more. Some (b ∷ more))
 escape_back b rest l =
     ⊎_elim
-    (λ t. ap (λ x. bracketed_value (cond x (37 ∷ upper (b / 16) ∷ upper (b % 16) ∷ []) (b ∷ []) ++ rest)) t ∙ ap (λ o. o >>= λ b. bracketed_value rest >>= λ more. Some (b ∷ more)) (two_digits b l))
+    (λ t. ap (λ x. bracketed_value (cond x (37 ∷ upper (b / 16) ∷ upper (b % 16) ∷ []) (b ∷ []) ++ rest)) t ∙ ap (λ o. o >>= λ b. bracketed_value rest >>= λ more. Some (b ∷ more)) (byte_digits b l))
     (λ f.
     let tests = none_of (nat_lt b 32) (b == 127) (b == 37) (b == 93) f in
     ap (λ x. bracketed_value (cond x (37 ∷ upper (b / 16) ∷ upper (b % 16) ∷ []) (b ∷ []) ++ rest)) f ∙ plain_byte b rest tests.1 tests.0)
@@ -95,18 +84,9 @@ rows_short : short_rows uids ≡ true
 unfolding uids
 rows_short = refl
 
-pub same_bytes : (x y : List ℕ) → bytes_eq x y ≡ true → x ≡ y
-same_bytes [] [] e = refl
-same_bytes [] (b ∷ bs) e = absurd (false≢true e)
-same_bytes (a ∷ rest) [] e = absurd (false≢true e)
-same_bytes (a ∷ rest) (b ∷ bs) e = let parts = both (a == b) (bytes_eq rest bs) e in ap (λ x. x ∷ rest) (eqb-true a b parts.0) ∙ ap (λ xs. b ∷ xs) (same_bytes rest bs parts.1)
-
 some_list : (o : Option (List ℕ)) (v : List ℕ) → option_map_or (λ x. bytes_eq x v) o false ≡ true → o ≡ Some v
 some_list None v e = absurd (false≢true e)
-some_list (Some x) v e = ap Some (same_bytes x v e)
-
-some_is_list : (x y : List ℕ) → Some x ≡ Some y → x ≡ y
-some_is_list x y e = cc
+some_list (Some x) v e = ap Some (bytes_same x v e)
 
 -- what a name in the table leads back to
 name_back : (all us : List Named) (uid name : List ℕ) → leads_back all us ≡ true → short_rows us ≡ true → name_in us uid ≡ Some name → (uid_in all name ≡ Some uid) × (length uid < 64)
@@ -114,7 +94,7 @@ name_back all [] uid name e f h = cc
 name_back all (u ∷ us) uid name e f h =
     ⊎_elim
     (λ t.
-    let same : u.0 ≡ uid = same_bytes u.0 uid t in
+    let same : u.0 ≡ uid = bytes_same u.0 uid t in
     let is : Some u.1 ≡ Some name = ap (λ b. option_map (λ (x : Named). x.1) (cond b (Some u) (find (λ x. bytes_eq x.0 uid) us))) (sym t) ∙ h in
     let called : u.1 ≡ name = some_is_list u.1 name is in
     let found : uid_in all u.1 ≡ Some u.0 = some_list (uid_in all u.1) u.0 first.0 in (
@@ -127,10 +107,10 @@ name_back all (u ∷ us) uid name e f h =
     (cases_Bool (bytes_eq u.0 uid))
   where
     first : (option_map_or (λ uid. bytes_eq uid u.0) (uid_in all u.1) false ≡ true) × (leads_back all us ≡ true)
-    first = both _ _ e
+    first = and_parts _ _ e
 
     short : (nat_lt (length u.0) 64 ≡ true) × (short_rows us ≡ true)
-    short = both _ _ f
+    short = and_parts _ _ f
 
 named_back : (uid : List ℕ) (o : Option (List ℕ)) → AreBytes uid → name_in uids uid ≡ o → uid_value (option_map_or (λ name. codes "=" ++ name) o (bracketed uid)) ≡ Some uid
 unfolding uid_of
@@ -141,20 +121,8 @@ pub uid_back : (uid : List ℕ) → AreBytes uid → uid_value (identified uid) 
 unfolding uid_name
 uid_back uid h = named_back uid (name_in uids uid) h refl
 
--- a text is no shorter than what it shows
-escaped_longer : (w : List ℕ) → length w ≤ length (escaped w)
-escaped_longer [] = omega arith
-escaped_longer (b ∷ bs) =
-    let rest = escaped_longer bs in
-    let one : 1 ≤ length (escape b) = of_test (nat_lt b 32 || b == 127 || b == 37 || b == 93) in
-    omega (arith, length-append (escape b) (escaped bs))
-  where
-    of_test : (t : Bool) → 1 ≤ length (cond t (37 ∷ upper (b / 16) ∷ upper (b % 16) ∷ []) (b ∷ []))
-    of_test true = omega arith
-    of_test false = omega arith
-
 pub text_few : (w : List ℕ) (n : ℕ) → length (bracketed w) ≤ n → length w ≤ n
-text_few w n l = let longer = escaped_longer w in omega (arith, length-append (codes "[" ++ escaped w) (codes "]"), length-append (codes "[") (escaped w))
+text_few w n l = let longer = length-escaped w in omega (arith, length-append (codes "[" ++ escaped w) (codes "]"), length-append (codes "[") (escaped w))
 
 few_named : (uid : List ℕ) (o : Option (List ℕ)) → name_in uids uid ≡ o → length (option_map_or (λ name. codes "=" ++ name) o (bracketed uid)) ≤ 16384 → length uid ≤ 16384
 few_named uid None e l = text_few uid 16384 l

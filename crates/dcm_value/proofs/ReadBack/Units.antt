@@ -3,20 +3,23 @@ use Rattle.std.proofs.Common.{◌≡◌, ◌≢◌, ◌≤◌, ◌<◌, ℕ, zer
 use Rattle.std.specs.Char.{digit_value}
 use Rattle.std.specs.List.{slice_split, join_with_byte, onto_first}
 use Rattle.std.specs.Str.Parse.{AllDigits, digits_value_after}
-use Rattle.std.proofs.lemmas.Bool.{le-leb, cases_lt, false≢true}
+use Rattle.std.proofs.lemmas.Bool.{le-leb, cases_lt}
 use mathlib.Core.Logic.{⊎_elim}
-use Rattle.std.proofs.lemmas.Fmt.{decimal_is_IsNumeral, decimal_is_IsNumeral_wide, length-decimal-le}
-use Rattle.std.proofs.lemmas.List.{reverse-append, length-reverse, get_or-reverse, get_or-take, get_or-drop, length-append, length-take, length-drop, take-append-drop}
+use Rattle.std.proofs.lemmas.Fmt.{decimal_is_IsNumeral, decimal_is_IsNumeral_wide}
+use Rattle.std.proofs.lemmas.List.{reverse-append, length-reverse, get_or-reverse, get_or-take, get_or-drop, length-append, length-take, length-drop, take-append-drop, take_all}
 use Rattle.byteorder.specs.Endian.{little_bytes}
 use Rattle.std.specs.Int.{byte_at, bytes_low_first}
 use Rattle.std.proofs.Math.Nat.{pow-suc, div-div-eq-div-mul, div-one, pow-le-pow_right, mod-eq_of_lt}
+use Rattle.dcm_base.proofs.DumpsBack.Numbers.{decimal_back, length-hex, word_back}
+use Rattle.dcm_base.proofs.DumpsBack.Texts.{lower_digit}
+use Rattle.dcm_lemmas.proofs.Numbers.{byte_is}
+use Rattle.dcm_lemmas.proofs.Truth.{and_parts, not_true}
 use Rattle.dcm_base.specs.declared.tag.Tag.{Tag}
 use Rattle.dcm_base.specs.Tables.Number.{AreBytes}
 use Rattle.dcm_base.specs.Tree.Value.{number_of, pieces}
 use Rattle.dcm_base.specs.Dump.ValueText.{lower, hex_byte, hex_word, signed_text, tag_text}
-use Rattle.dcm_base.specs.Lines.ReadValue.{◌>>=◌, only_if, digit, number_in, decimal_number, hex_number, unsigned_value, positive_value, negative_value, signed_value, tag_value, hex_value, each_part, joined}
-use Rattle.dcm_value.proofs.ReadBack.Texts.{lower_digit, all_below, one_below}
-use Rattle.dcm_value.proofs.Displays.Facts.{take_within}
+use Rattle.dcm_base.specs.Lines.ReadValue.{◌>>=◌, only_if, digit, number_in, hex_number, unsigned_value, positive_value, negative_value, signed_value, tag_value, hex_value, each_part, joined}
+use Rattle.dcm_value.proofs.ReadBack.Texts.{all_below, one_below}
 
 -- what digits spell
 digits_spell : (base so_far : ℕ) (cs : List ℕ) → AllDigits base cs → number_in base so_far cs ≡ Some (digits_value_after base so_far cs)
@@ -25,29 +28,15 @@ digits_spell base so_far (c ∷ cs) h =
     ap (λ b. cond b (Some (digit_value c)) None >>= λ d. number_in base (so_far * base + d) cs) (lt-ltb (digit_value c) base h.0)
     ∙ digits_spell base (so_far * base + digit_value c) cs h.1
 
-pub decimal_back : (n : ℕ) → n < 2 ^ 64 → decimal_number (decimal n) ≡ Some n
-decimal_back n l =
-    let numeral = decimal_is_IsNumeral n l in
-    let short : length (decimal n) ≤ 20 = length-decimal-le 20 n (lit< tt) (omega arith) l in
-    ap (λ b. cond (b && nat_le (length (decimal n)) 20) (number_in 10 0 (decimal n)) None) (le-leb 1 (length (decimal n)) (let some = numeral.0.0 in omega arith))
-    ∙ ap (λ b. cond b (number_in 10 0 (decimal n)) None) (le-leb (length (decimal n)) 20 short)
-    ∙ digits_spell 10 0 (decimal n) numeral.0.1
-    ∙ ap Some numeral.1
-
 -- no digit is a backslash or a sign
 digit_is_plain : (c : ℕ) → digit_value c < 10 → (c ≢ 92) × (c ≢ 45)
 digit_is_plain c l = (λ e. absurd (let big : digit_value c ≡ 36 = ap digit_value e in omega arith), λ e. absurd (let big : digit_value c ≡ 36 = ap digit_value e in omega arith))
-
--- the number of bytes, and its bytes
-byte_there : (j n : ℕ) → byte_at j n ≡ n / 256 ^ j % 256
-byte_there zero n = ap (λ m. m % 256) (sym (div-one n))
-byte_there (suc j) n = refl
 
 bytes_from : (u : List ℕ) (j n : ℕ) → AreBytes u → n / 256 ^ j ≡ number_of u → bytes_low_first j (length u) n ≡ u
 bytes_from [] j n h e = refl
 bytes_from (b ∷ bs) j n h e =
     let small : b < 256 = h 0 in
-    let here : byte_at j n ≡ b = byte_there j n ∙ ap (λ m. m % 256) e ∙ (let f : (b + 256 * number_of bs) % 256 ≡ b = omega arith in f) in
+    let here : byte_at j n ≡ b = byte_is j n ∙ ap (λ m. m % 256) e ∙ (let f : (b + 256 * number_of bs) % 256 ≡ b = omega arith in f) in
     let next : n / 256 ^ suc j ≡ number_of bs =
     ap (λ p. n / p) (pow-suc 256 j) ∙ sym (div-div-eq-div-mul n (256 ^ j) 256) ∙ ap (λ m. m / 256) e ∙ (let f : (b + 256 * number_of bs) / 256 ≡ number_of bs = omega arith in f)
     in
@@ -117,15 +106,6 @@ signed_back size u k e h =
         ∙ ap (λ x. signed_value s (cond (nat_lt n half) (decimal n) (codes "-" ++ decimal (x - n)))) wide
         ∙ signed_in s half u (e ∙ same) twice few h
 
--- four digits of a number of two bytes
-word_back : (n : ℕ) → n < 65536 → hex_number 4 (hex_word n) ≡ Some n
-word_back n l =
-    ap (λ o. o >>= λ a. digit 16 (lower (n / 256 % 16)) >>= λ b. digit 16 (lower (n % 256 / 16)) >>= λ c. digit 16 (lower (n % 256 % 16)) >>= λ d. Some ((((0 * 16 + a) * 16 + b) * 16 + c) * 16 + d)) (lower_digit (n / 256 / 16) (omega arith))
-    ∙ ap (λ o. o >>= λ b. digit 16 (lower (n % 256 / 16)) >>= λ c. digit 16 (lower (n % 256 % 16)) >>= λ d. Some ((((0 * 16 + n / 256 / 16) * 16 + b) * 16 + c) * 16 + d)) (lower_digit (n / 256 % 16) (omega arith))
-    ∙ ap (λ o. o >>= λ c. digit 16 (lower (n % 256 % 16)) >>= λ d. Some ((((0 * 16 + n / 256 / 16) * 16 + n / 256 % 16) * 16 + c) * 16 + d)) (lower_digit (n % 256 / 16) (omega arith))
-    ∙ ap (λ o. o >>= λ d. Some ((((0 * 16 + n / 256 / 16) * 16 + n / 256 % 16) * 16 + n % 256 / 16) * 16 + d)) (lower_digit (n % 256 % 16) (omega arith))
-    ∙ ap Some (let e : (((0 * 16 + n / 256 / 16) * 16 + n / 256 % 16) * 16 + n % 256 / 16) * 16 + n % 256 % 16 ≡ n = omega arith in e)
-
 abbrev tag_from : ℕ → ℕ → Option Tag
 tag_from group element = Some (record { group = group; element = element })
 
@@ -190,27 +170,15 @@ unfolding high_number
 high_reverse [] = refl
 high_reverse (b ∷ bs) = ap (high_number 0) (reverse-append (b ∷ []) bs) ∙ high_last 0 (reverse bs) b ∙ ap (λ n. n * 256 + b) (high_reverse bs) ∙ (let e : number_of bs * 256 + b ≡ b + 256 * number_of bs = omega arith in e)
 
-length_digits : (w : List ℕ) → length (flat_map hex_byte w) ≡ 2 * length w
-length_digits [] = refl
-length_digits (b ∷ bs) = let rest = length_digits bs in omega arith
-
 pub hex_back : (size : ℕ) (u : List ℕ) → length u ≡ size → AreBytes u → hex_value size (flat_map hex_byte (reverse u)) ≡ Some u
 hex_back size u e h =
     let cs : List ℕ = flat_map hex_byte (reverse u) in
-    let long : length cs ≡ 2 * size = length_digits (reverse u) ∙ ap (λ k. 2 * k) (length-reverse u ∙ e) in
+    let long : length cs ≡ 2 * size = length-hex (reverse u) ∙ ap (λ k. 2 * k) (length-reverse u ∙ e) in
     ap (λ b. cond b (number_in 16 0 cs) None >>= λ n. Some (little_bytes size n)) (eq-eqb (length cs) (2 * size) long)
     ∙ ap (λ o. o >>= λ n. Some (little_bytes size n)) (digits_back 0 (reverse u) (reversed_bytes u h))
     ∙ ap (λ n. Some (little_bytes size n)) (high_reverse u)
     ∙ ap (λ k. Some (little_bytes k (number_of u))) (sym e)
     ∙ ap Some (bytes_back u h)
-
-both : (a b : Bool) → a && b ≡ true → (a ≡ true) × (b ≡ true)
-both true b e = (refl, e)
-both false b e = absurd (false≢true e)
-
-not_true : (t : Bool) → not t ≡ true → t ≡ false
-not_true true e = absurd (false≢true e)
-not_true false e = refl
 
 -- texts without a backslash
 abbrev pub is_plain : List ℕ → Bool
@@ -220,7 +188,7 @@ is_plain (c ∷ cs) = not (c == 92) && is_plain cs
 plain_append : (xs ys : List ℕ) → is_plain xs ≡ true → is_plain ys ≡ true → is_plain (xs ++ ys) ≡ true
 plain_append [] ys a b = b
 plain_append (x ∷ xs) ys a b =
-    let parts = both (not (x == 92)) (is_plain xs) a in
+    let parts = and_parts (not (x == 92)) (is_plain xs) a in
     ap (λ t. t && is_plain (xs ++ ys)) parts.0 ∙ plain_append xs ys parts.1 b
 
 plain_digits : (cs : List ℕ) → AllDigits 10 cs → is_plain cs ≡ true
@@ -247,14 +215,14 @@ plain_word n l = plain_append (hex_byte (n / 256)) (hex_byte (n % 256)) (plain_b
 split_plain : (x ys : List ℕ) → is_plain x ≡ true → slice_split (λ c. c == 92) (x ++ 92 ∷ ys) ≡ x ∷ slice_split (λ c. c == 92) ys
 split_plain [] ys e = refl
 split_plain (c ∷ cs) ys e =
-    let parts = both (not (c == 92)) (is_plain cs) e in
+    let parts = and_parts (not (c == 92)) (is_plain cs) e in
     ap (λ t. cond t ([] ∷ slice_split (λ c. c == 92) (cs ++ 92 ∷ ys)) (onto_first c (slice_split (λ c. c == 92) (cs ++ 92 ∷ ys)))) (not_true (c == 92) parts.0)
     ∙ ap (onto_first c) (split_plain cs ys parts.1)
 
 split_last : (x : List ℕ) → is_plain x ≡ true → slice_split (λ c. c == 92) x ≡ x ∷ []
 split_last [] e = refl
 split_last (c ∷ cs) e =
-    let parts = both (not (c == 92)) (is_plain cs) e in
+    let parts = and_parts (not (c == 92)) (is_plain cs) e in
     ap (λ t. cond t ([] ∷ slice_split (λ c. c == 92) cs) (onto_first c (slice_split (λ c. c == 92) cs))) (not_true (c == 92) parts.0)
     ∙ ap (onto_first c) (split_last cs parts.1)
 
@@ -266,7 +234,7 @@ bytes_take k v h i =
     (λ l. subst (λ x. x < 256) (sym (past (take k v) i (omega (arith, length-take k v)))) (lit< tt))
     (cases_lt i k)
 
-bytes_drop : (k : ℕ) (v : List ℕ) → AreBytes v → AreBytes (drop k v)
+pub bytes_drop : (k : ℕ) (v : List ℕ) → AreBytes v → AreBytes (drop k v)
 bytes_drop k v h i = subst (λ x. x < 256) (sym (get_or-drop k v i 0)) (h (k + i))
 
 -- a unit and its text
@@ -284,7 +252,7 @@ units_back t read k each zero v e h =
     let u : List ℕ = take k v in
     let is_unit : length u ≡ k = omega (arith, length-take k v) in
     let one = each u is_unit (bytes_take k v h) in
-    let all : u ≡ v = take_within k v (omega arith) in
+    let all : u ≡ v = take_all k v (omega arith) in
     record {
       all = ap (each_part read) (split_last (t u) one.plain) ∙ ap (λ o. o >>= λ bytes. Some (bytes ++ [])) one.back ∙ ap Some (append-nil u ∙ all);
       long = (let some = one.some in omega arith);
@@ -361,5 +329,5 @@ pub back_bytes : (k : ℕ) → 0 < k → (u : List ℕ) → length u ≡ k → A
 back_bytes k l u e h = record {
   plain = plain_bytes (reverse u) (reversed_bytes u h);
   back = hex_back k u e h;
-  some = omega (arith, length_digits (reverse u), length-reverse u);
+  some = omega (arith, length-hex (reverse u), length-reverse u);
 }

@@ -6,6 +6,7 @@ use Rattle.std.proofs.Math.Nat.{mul-le-mul_left, zero-mul}
 use Rattle.std.proofs.lemmas.Nat.{div-add-mod'}
 use Rattle.std.proofs.lemmas.Bool.{cases_Bool}
 use mathlib.Core.Logic.{⊎_elim}
+use Rattle.dcm_lemmas.proofs.Lists.{bytes_same}
 use Rattle.dcm_base.specs.declared.vr.Vr.{Vr}
 use Rattle.dcm_base.specs.declared.vr.Vr.TheVariants.{AE, AS, AT, CS, DA, DS, DT, FD, FL, IS, LO, LT, OB, OD, OF, OL, OV, OW, PN, SH, SL, SQ, SS, ST, SV, TM, UC, UI, UL, UN, UR, US, UT, UV}
 use Rattle.dcm_base.specs.Tables.Number.{AreBytes}
@@ -16,7 +17,7 @@ use Rattle.dcm_base.specs.Lines.ReadValue.{◌>>=◌, within_limit, VALUE_LIMIT,
 use Rattle.dcm_value.specs.Units.{kind_of}
 use Rattle.dcm_value.specs.Parts.{part_value}
 use Rattle.dcm_value.specs.Laws.{ReadsBack, kept}
-use Rattle.dcm_value.proofs.ReadBack.Texts.{text_back, text_few, uid_back, uid_few, same_bytes}
+use Rattle.dcm_value.proofs.ReadBack.Texts.{text_back, text_few, uid_back, uid_few}
 use Rattle.dcm_value.proofs.ReadBack.Units.{IsBack, AreBack, units_back, back_unsigned, back_signed, back_tags, back_bytes, bytes_take}
 use Rattle.dcm_value.proofs.ReadBack.Parts.{in_parts, meant_by, within}
 use Rattle.dcm_value.proofs.Displays.TextSteps.{IsNumber, Sort, of_text, of_name, of_number, sort, number_way, number_shown, display_some}
@@ -140,7 +141,7 @@ stands_for : (vr : Vr) (cs w : List ℕ) → vr ≢ SQ → value_in (shape vr) (
 stands_for vr cs w n is few =
     let other : is_no_value cs ≡ false =
     ⊎_elim
-    (λ t. absurd (nothing_is w (sym (no_other vr n) ∙ ap (value_in (shape vr) (unit vr)) (sym (same_bytes cs (codes "(no value available)") t)) ∙ is)))
+    (λ t. absurd (nothing_is w (sym (no_other vr n) ∙ ap (value_in (shape vr) (unit vr)) (sym (bytes_same cs (codes "(no value available)") t)) ∙ is)))
     (λ f. f)
     (cases_Bool (is_no_value cs))
     in
@@ -182,7 +183,7 @@ shown_few US = lit≤ tt
 shown_few UT = lit≤ tt
 shown_few UV = lit≤ tt
 
-unpadded_bytes : (vr : Vr) (v : List ℕ) → AreBytes v → AreBytes (unpadded vr v)
+pub unpadded_bytes : (vr : Vr) (v : List ℕ) → AreBytes v → AreBytes (unpadded vr v)
 unpadded_bytes vr v h = of_test (length v % 2 == 0 && slice_index v (length v - 1) == pad vr)
   where
     of_test : (t : Bool) → AreBytes (cond t (take (length v - 1) v) v)

@@ -14,7 +14,7 @@ use Rattle.dcm_base.specs.Tree.Value.{pieces, units, order, turned, number_of}
 use Rattle.dcm_base.specs.Dump.ValueText.{Shape, text, identifier, unsigned, signed, tags, hexadecimal, shape, shown_unit, unit_text, hex_byte, signed_text}
 use Rattle.dcm_base.proofs.Conversions.UnitLaws.{units_cons, units_none}
 use Rattle.dcm_base.proofs.Conversions.OrderLaws.{turns_units, keeps_length, turned_bytes}
-use Rattle.dcm_base.proofs.Conversions.Order.{turned_cons, turned_unit}
+use Rattle.dcm_base.proofs.Conversions.Order.{turned_unit, four_cons, tag_units}
 use Rattle.dcm_base.specs.Tables.Syntax.{is_big}
 use Rattle.dcm_value.specs.Units.{kind_of, high_text, high, one_text, separated}
 
@@ -92,12 +92,6 @@ tag_high (little_in k) (a ∷ b ∷ c ∷ d ∷ []) e = refl
 tag_high (big_in k) (a ∷ b ∷ c ∷ d ∷ []) e = refl
 tag_high syntax _ e = absurd (omega arith)
 
--- units of four bytes that are turned by halves
-turned_four : (u w : List ℕ) → length u ≡ 4 → turned 2 (u ++ w) ≡ turned 2 u ++ turned 2 w
-turned_four (a ∷ b ∷ c ∷ d ∷ []) w e =
-    turned_cons 2 (lit< tt) (a ∷ b ∷ []) (c ∷ d ∷ w) refl ∙ ap (λ xs. (b ∷ a ∷ []) ++ xs) (turned_cons 2 (lit< tt) (c ∷ d ∷ []) w refl)
-turned_four _ w e = absurd (omega arith)
-
 turns_fours : (n : ℕ) (v : List ℕ) → length v ≤ n → units 4 (turned 2 v) ≡ map (turned 2) (units 4 v)
 turns_fours zero v l = none v (omega arith)
   where
@@ -112,7 +106,7 @@ turns_fours (suc n) v l =
     let whole : u ++ w ≡ v = take-append-drop 4 v in
     let is_unit : length u ≡ 4 = omega (arith, length-take 4 v) in
     ap (λ x. units 4 (turned 2 x)) (sym whole)
-    ∙ ap (units 4) (turned_four u w is_unit)
+    ∙ ap (units 4) (four_cons u w is_unit)
     ∙ units_cons 4 (lit< tt) (turned 2 u) (turned 2 w) (keeps_length 2 (lit< tt) u ∙ is_unit)
     ∙ ap (λ us. turned 2 u ∷ us) (turns_fours n w (omega (arith, length-drop 4 v)))
     ∙ ap (map (turned 2)) (sym (units_cons 4 (lit< tt) u w is_unit))
@@ -191,16 +185,11 @@ ordered_ones (implicit_in d) vr o v = sym (map_same (units (unit vr) v))
 ordered_ones (little_in d) vr o v = sym (map_same (units (unit vr) v))
 ordered_ones (big_in d) vr o v = turns_units (unit vr) o.some v
 
-ordered_tags : (syntax : Syntax) (v : List ℕ) → units 4 (order syntax AT v) ≡ map (order syntax AT) (units 4 v)
-ordered_tags (implicit_in d) v = sym (map_same (units 4 v))
-ordered_tags (little_in d) v = sym (map_same (units 4 v))
-ordered_tags (big_in d) v = turns_fours (length v) v (omega arith)
-
 pub ordered_units : (syntax : Syntax) (vr : Vr) (v : List ℕ) → units (shown_unit vr) (order syntax vr v) ≡ map (order syntax vr) (units (shown_unit vr) v)
 ordered_units syntax vr v = go (kinds vr)
   where
     go : Kinds vr → units (shown_unit vr) (order syntax vr v) ≡ map (order syntax vr) (units (shown_unit vr) v)
     go (of_tags is) =
         let P : Vr → Type 0 = λ x. units (shown_unit x) (order syntax x v) ≡ map (order syntax x) (units (shown_unit x) v) in
-        subst P (sym is) (ordered_tags syntax v)
+        subst P (sym is) (tag_units syntax v)
     go (of_ones o) = ap (λ k. units k (order syntax vr v)) o.same ∙ ordered_ones syntax vr o v ∙ ap (λ k. map (order syntax vr) (units k v)) (sym o.same)

@@ -1,9 +1,9 @@
 use Rattle.std.proofs.Common.{◌∷◌, ◌≡◌, refl, ◌∙◌, ap, sym, subst, ℕ, List, [], ◌++◌, Option, Some, rules, true, false}
 use Rattle.std.specs.Io.KnownBytes.{append_known}
-use Rattle.dcm_base.specs.Dump.Header.{set_header}
 use Rattle.dcm_devices.specs.Device.{AppendsFront}
 use Rattle.dcm_stream.specs.Machine.{Progress}
 use Rattle.dcm_stream.specs.Reading.{Reading, start_of}
+use Rattle.dcm_sinks.specs.DecodedHeader.{decoded_alone_header}
 use Rattle.dcm_sinks.specs.DecodedSink.{DecodedState, decoded_start, decoded_step, decoded_writes, bars_no_head}
 use Rattle.dcm_sinks.specs.DecodedLines.{state_of as decoded_state_of}
 use Rattle.dcm_cli.specs.Pass as spec
@@ -36,9 +36,9 @@ returns-then-is_err g c =
       how = in_part;
       reads = nothing_read (members g.R.Device g.R.DeviceIn) (IsUndecided job) c.args.input.now;
       worked = λ rest ok.
-          alone_unheaded job (read_by c.args.dictionary c.args.syntax) (alone_decoder c.args.dictionary c.args.mode c.args.syntax) rest (Some rest) (g.W.DeviceOut.contents c.args.out.now) (g.W.DeviceOut.contents c.set_header.new.out)
-          (subst (λ uid. AppendsFront (g.W.DeviceOut.contents c.args.out.now) (g.W.DeviceOut.contents c.set_header.new.out) (set_header uid)) (c.as_bytes.ensures.value ∙ c.of.ensures ∙ uid_alike c.args.dictionary c.args.syntax)
-          (put_failed _ _ (set_header c.as_bytes.result.now) c.set_header.result (sym c.if-is_err.ensures.value) c.set_header.ensures.bytes));
+          alone_unheaded job (read_by c.args.dictionary c.args.syntax) (alone_decoder c.args.dictionary c.args.mode c.args.syntax) rest (Some rest) (g.W.DeviceOut.contents c.args.out.now) (g.W.DeviceOut.contents c.decoded_alone_header.new.out)
+          (subst (λ uid. AppendsFront (g.W.DeviceOut.contents c.args.out.now) (g.W.DeviceOut.contents c.decoded_alone_header.new.out) (decoded_alone_header uid)) (c.as_bytes.ensures.value ∙ c.of.ensures ∙ uid_alike c.args.dictionary c.args.syntax)
+          (put_failed _ _ (decoded_alone_header c.as_bytes.result.now) c.decoded_alone_header.result (sym c.if-is_err.ensures.value) c.decoded_alone_header.ensures.bytes));
       decided = decided_output job [] in_part Output refl;
       unread = search rules;
       failed = search rules;
@@ -48,7 +48,7 @@ pub returns : goal.returns
 returns g c =
     let reader : Reader g.row.R.Denot = members g.R.Device g.R.DeviceIn in
     let job : Job = dump_decoded c.args.dictionary c.args.mode (Some c.args.syntax) in
-    let went = put_whole _ _ (set_header c.as_bytes.result.now) c.set_header.result (sym c.if-is_err.ensures.value) c.set_header.ensures.bytes ∙ ap (λ uid. append_known (g.W.DeviceOut.contents c.args.out.now) (set_header uid)) (c.as_bytes.ensures.value ∙ c.of.ensures ∙ uid_alike c.args.dictionary c.args.syntax) in
+    let went = put_whole _ _ (decoded_alone_header c.as_bytes.result.now) c.decoded_alone_header.result (sym c.if-is_err.ensures.value) c.decoded_alone_header.ensures.bytes ∙ ap (λ uid. append_known (g.W.DeviceOut.contents c.args.out.now) (decoded_alone_header uid)) (c.as_bytes.ensures.value ∙ c.of.ensures ∙ uid_alike c.args.dictionary c.args.syntax) in
     let mid = ap (λ (x : g.row.W.Denot). g.W.DeviceOut.contents x) c.new-sink.ensures.out ∙ went in
     let first = ap (λ (p : Progress). p.reading) c.new-machine.ensures ∙ ap (λ (s : Syntax). start_of s 0) c.read_by.ensures in
     let begun : DecodedState = decoded_start c.args.dictionary c.args.mode in

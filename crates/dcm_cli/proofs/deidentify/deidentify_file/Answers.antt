@@ -7,15 +7,17 @@ use Rattle.dcm_deid.specs.DeidentifySink.{begun}
 use Rattle.dcm_deid.specs.Through.{through_step, through_writes, through_bar}
 use Rattle.dcm_sinks.specs.EncodeSink.{EncodeState, encode_step, encode_writes, encode_start}
 use Rattle.dcm_sinks.specs.Encoder.{state as encoder_state}
+use Rattle.dcm_cli.specs.declared.ending.Ended.{Ended}
 use Rattle.dcm_cli.specs.declared.ending.Ending.{Ending}
-use Rattle.dcm_cli.specs.Calls.{Opens}
+use Rattle.dcm_cli.specs.Calls.{Opens, WorksOn}
 use Rattle.dcm_cli.specs.InputCalls.{Allows, Reader, IsUndecided}
 use Rattle.dcm_cli.specs.Opening.{HeadChange, without_identity}
 use Rattle.dcm_cli.specs.Pass as spec
-use Rattle.dcm_cli.specs.Run.{Worked}
+use Rattle.dcm_cli.specs.Run.{RemarkedAs, Worked}
 use Rattle.dcm_cli.proofs.Passes.Decided.{decided_by, not_opened_decided, set_decided, still_without_pixels}
 use Rattle.dcm_cli.proofs.Passes.DeidentifyPasses.{deidentify_not_opened, deidentify_worked}
 use Rattle.dcm_cli.proofs.Passes.MakesDeidentified.{file_deidentifier}
+use Rattle.dcm_cli.proofs.Passes.Remarked.{not_opened_remarked, set_remarked}
 use Rattle.dcm_cli.proofs.Passes.Readers.{members, writer, allows_any, allows_nothing, nothing_follows, ends_empty, joined}
 use Rattle.dcm_cli.proofs.Runs.Stopping.{head_reads, head_undecided, began_gave, opened_undecided}
 use Rattle.dcm_cli.proofs.deidentify.deidentify_file.Goals as goal
@@ -26,16 +28,22 @@ returns-in-Err g c =
     let job : Job = deidentify what.options what.reports what.key.items in
     let x = subst (λ (change : HeadChange). Opens (members g.R.Device g.R.DeviceIn) (writer g.W.Device g.W.DeviceOut) Standard None change c.args.input.now c.open_file.new.input c.args.out.now c.open_file.new.out c.args.buffer.now c.open_file.new.buffer c.open_file.result) c.new_head-head.ensures c.open_file.ensures.opens in
     let opens = rw c.in-Err.is at x.opens in
-    record {
-      given = x.read;
-      how = x.how;
-      reads = head_reads (members g.R.Device g.R.DeviceIn) job refl _ _ x.read x.how x.reads;
-      worked = λ rest ok.
-          deidentify_not_opened what.options what.reports what.key.items x.read rest x.how ok (g.W.DeviceOut.contents c.args.out.now) (g.W.DeviceOut.contents c.open_file.new.out) c.in-Err.ending opens;
-      decided = not_opened_decided None (without_identity what.options what.key.items) job refl (λ coding. refl) x.read x.how (g.W.DeviceOut.contents c.args.out.now) (g.W.DeviceOut.contents c.open_file.new.out) c.in-Err.ending opens;
-      unread = search rules;
-      failed = search rules;
-    }
+    let ending = c.in-Err.ending in
+    let remarked = not_opened_remarked what.options what.reports what.key.items x.read x.how (g.W.DeviceOut.contents c.args.out.now) (g.W.DeviceOut.contents c.open_file.new.out) ending opens in
+    subst (λ (ended : Ended). WorksOn (members g.R.Device g.R.DeviceIn) (writer g.W.Device g.W.DeviceOut) job c.args.input.now c.open_file.new.input c.args.out.now c.open_file.new.out ended) (sym c.remarking_nothing.ensures)
+    (record {
+      works = record {
+        given = x.read;
+        how = x.how;
+        reads = head_reads (members g.R.Device g.R.DeviceIn) job refl _ _ x.read x.how x.reads;
+        worked = λ rest ok.
+            deidentify_not_opened what.options what.reports what.key.items x.read rest x.how ok (g.W.DeviceOut.contents c.args.out.now) (g.W.DeviceOut.contents c.open_file.new.out) ending opens;
+        decided = not_opened_decided None (without_identity what.options what.key.items) job refl (λ coding. refl) x.read x.how (g.W.DeviceOut.contents c.args.out.now) (g.W.DeviceOut.contents c.open_file.new.out) ending opens;
+        unread = search rules;
+        failed = search rules;
+      };
+      remarked = remarked;
+    })
 
 pub returns : goal.returns
 returns g c =
@@ -53,7 +61,8 @@ returns g c =
     let holds = g.W.DeviceOut.contents c.read_deidentified.new.sink.out.now in
     let last : EncodeState = encoder_state c.read_deidentified.new.sink.encoder in
     let pass = c.read_deidentified.ensures.passes in
-    let shows : Bool = what.reports && pass.last.place.may_show in
+    let ended = c.read_deidentified.result in
+    let shows : Bool = what.reports && pass.last.place.seen.may_show in
     let Passed : EncodeState → Option (List ℕ) → Type 0 = λ s known. spec.ReadsSet through_bar (through_step encode_step) (through_writes encode_step encode_writes) reader c.open_file.new.input c.read_deidentified.new.input opened.beginning.is_over (spec.set_bytes opened.beginning buffer)
     (start_of opened.coding.syntax opened.start) (begun what.options what.key.items, s) known (pass.last, last) holds pass.passed
     in
@@ -65,25 +74,32 @@ returns g c =
     (λ more is going. opened_undecided None change job refl maker x.read more x.how (allows_any x.how is (more ++ [])) held mid buffer opened x.opens refl going.0 going.1)
     (λ more going. began_gave reader c.args.input.now c.open_file.new.input x.opens.reading opened.beginning buffer x.read x.how x.opens.head.begins x.reads going.0)
     in
-    let worked : (rest : List ℕ) → Allows j.how rest → Worked job ((x.read ++ set.more) ++ rest) (Some rest) held holds c.read_deidentified.result = λ rest ok.
+    let worked : (rest : List ℕ) → Allows j.how rest → Worked job ((x.read ++ set.more) ++ rest) (Some rest) held holds ended.ending = λ rest ok.
     let a = j.allows rest ok in
     let f = subst (λ (ending : Ending). Worked job (x.read ++ (set.more ++ rest)) (Some rest) held holds ending) (sym pass.ending_is)
     (deidentify_worked what.options what.reports what.key.items x.read (set.more ++ rest) x.how a.0 held mid buffer opened x.opens set.more rest refl pass.last last holds pass.passed pass.was
     (set.ends rest a.1 (λ over. ends_empty set.more rest (nothing_follows x.how (set.more ++ rest) a.0 (x.opens.head.begins.over over)))))
     in
-    subst (λ (bytes : List ℕ). Worked job bytes (Some rest) held holds c.read_deidentified.result) (sym (append_assoc x.read set.more rest)) f
+    subst (λ (bytes : List ℕ). Worked job bytes (Some rest) held holds ended.ending) (sym (append_assoc x.read set.more rest)) f
     in
     let k = c.read_deidentified.ensures.kept in
     let n = c.new-sink.ensures.same_reference in
+    let ends_at : (rest : List ℕ) → Allows j.how rest → spec.Ends through_bar (through_step encode_step) (through_writes encode_step encode_writes) (start_of opened.coding.syntax opened.start) (begun what.options what.key.items, encode_start opened.coding.syntax) mid (Some rest) (pass.last, last) holds (spec.set_bytes opened.beginning buffer ++ set.more) pass.passed = λ rest ok.
+    set.ends rest (j.allows rest ok).1 (λ over. ends_empty set.more rest (nothing_follows x.how (set.more ++ rest) (j.allows rest ok).0 (x.opens.head.begins.over over)))
+    in
     record {
-      given = x.read ++ set.more;
-      how = j.how;
-      reads = j.reads;
-      worked = λ rest ok.
-          subst (λ (known : Option (List ℕ)). Worked job ((x.read ++ set.more) ++ rest) (Some rest) held known c.read_deidentified.result) (search (rules, k, n)) (worked rest ok);
-      decided = decided_by job (x.read ++ set.more) j.how c.read_deidentified.result held holds (worked [] (allows_nothing j.how)) (λ one.
-          set_decided job refl opened.coding refl (maker opened.coding) x.read set.more x.how j.how buffer x.opens.reading opened.beginning opened.start x.opens.head (λ rest ok. (j.allows rest ok).0) mid (pass.last, last) holds pass.passed c.read_deidentified.result (λ y no is. pass.ending_is ∙ ap (λ (e : Ending). spec.with_pixels e shows) is ∙ still_without_pixels y shows no) one
-          (set.ends (0 ∷ []) (j.allows (0 ∷ []) one).1 (λ over. ends_empty set.more (0 ∷ []) (nothing_follows x.how (set.more ++ 0 ∷ []) (j.allows (0 ∷ []) one).0 (x.opens.head.begins.over over)))));
-      unread = search rules;
-      failed = search rules;
+      works = record {
+        given = x.read ++ set.more;
+        how = j.how;
+        reads = j.reads;
+        worked = λ rest ok.
+            subst (λ (known : Option (List ℕ)). Worked job ((x.read ++ set.more) ++ rest) (Some rest) held known ended.ending) (search (rules, k, n)) (worked rest ok);
+        decided = decided_by job (x.read ++ set.more) j.how ended.ending held holds (worked [] (allows_nothing j.how)) (λ one.
+            set_decided job refl opened.coding refl (maker opened.coding) x.read set.more x.how j.how buffer x.opens.reading opened.beginning opened.start x.opens.head (λ rest ok. (j.allows rest ok).0) mid (pass.last, last) holds pass.passed ended.ending (λ y no is. pass.ending_is ∙ ap (λ (e : Ending). spec.with_pixels e shows) is ∙ still_without_pixels y shows no) one
+            (set.ends (0 ∷ []) (j.allows (0 ∷ []) one).1 (λ over. ends_empty set.more (0 ∷ []) (nothing_follows x.how (set.more ++ 0 ∷ []) (j.allows (0 ∷ []) one).0 (x.opens.head.begins.over over)))));
+        unread = search rules;
+        failed = search rules;
+      };
+      remarked = subst (λ (e : Ending). RemarkedAs job (x.read ++ set.more) j.how e ended.remarks) (sym pass.ending_is)
+          (set_remarked what.options what.reports what.key.items opened.coding x.read set.more x.how j.how buffer x.opens.reading opened.beginning opened.start x.opens.head (λ rest ok. (j.allows rest ok).0) (pass.last, last) ended.remarks pass.remarks_are mid holds shows pass.passed pass.was ends_at);
     }

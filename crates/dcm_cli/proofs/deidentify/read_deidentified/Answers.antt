@@ -32,7 +32,8 @@ returns g c =
         passed = c.read_set-ending.result;
         ends = subst (λ (x : g.row.S.Denot). Passed (first, g.S.Sink.state c.args.sink.now) (g.S.Sink.contents c.args.sink.now) x) (search (rules, k, n)) whole;
         was = c.read_set-ending.ensures.over;
-        ending_is = c.with_pixels.ensures ∙ ap (λ (shows : Bool). spec.with_pixels c.read_set-ending.result (c.args.what.now.reports && shows)) c.pixels_may_show.ensures;
+        ending_is = c.with_pixels-ending.ensures ∙ ap (λ (shows : Bool). spec.with_pixels c.read_set-ending.result (c.args.what.now.reports && shows)) c.pixels_may_show.ensures;
+        remarks_are = ap (λ (n : ℕ). record { emptied = n }) c.dates_emptied-emptied.ensures;
       };
       unread = search rules;
       failed = search rules;

@@ -15,4 +15,4 @@ returns-clause-shows g c =
     shows c.in-Ok.output c.put_text-status.new.out c.stdout.new.self
     (subst (λ r. g.S.System.may_do.stdout c.args.system.now r c.stdout.new.self) c.in-Ok.is c.stdout.ensures)
     (over_output (writer g.S.Output.Device g.S.Output.DeviceOut) _ _ _ _ _ _ _ c.text.ensures c.new-out.ensures c.put_text-status.ensures.put)
-    (search rules)
+    (record { answer = c.close.result; call = search rules })

@@ -1,16 +1,42 @@
-use Rattle.std.proofs.Common.{Global, Option, sym, subst}
+use Rattle.std.proofs.Common.{◌≡◌, Global, ℕ, List, ◌++◌, Option, refl, sym, subst}
+use Rattle.dcm_words.specs.Plans.{named_as}
+use Rattle.dcm_cli.proofs.Passes.NamedJobs.{of_named}
+use Rattle.dcm_devices.specs.Writing.{Writer}
 use Rattle.dcm_base.specs.declared.dictionary.Dictionary.{Dictionary}
 use Rattle.dcm_base.specs.declared.mode.Mode.{Mode}
 use Rattle.dcm_base.specs.declared.syntax.Syntax.{Syntax}
 use Rattle.dcm_words.specs.declared.job.Texts.{Texts}
 use Rattle.dcm_words.specs.declared.job.Texts.TheVariants.{Bytes, Characters}
-use Rattle.dcm_words.specs.Words.{dump_as}
+use Rattle.dcm_words.specs.Words.{Job as WordJob, dump_as}
 use Rattle.dcm_words.specs.declared.job.Job.{Job}
 use Rattle.dcm_words.specs.Plans.{job_of}
-use Rattle.dcm_cli.specs.Calls.{Works}
-use Rattle.dcm_cli.specs.Run.{IsMeant}
+use Rattle.dcm_cli.specs.declared.ending.Ended.{Ended}
+use Rattle.dcm_cli.specs.declared.ending.Ending.{Ending}
+use Rattle.dcm_cli.specs.declared.ending.Ending.TheVariants.{Worked, Unread, Output}
+use Rattle.dcm_cli.specs.Calls.{Reader, Works, WorksOn}
+use Rattle.dcm_cli.specs.InputCalls.{How}
+use Rattle.dcm_cli.specs.Remarks.{no_remarks, remarking_nothing}
+use Rattle.dcm_cli.specs.Run.{IsMeant, Remarked, RemarkedAs, SoFarRemarked}
 use Rattle.dcm_cli.proofs.Passes.Readers.{members, writer}
 use Rattle.dcm_cli.proofs.run.work.Goals as goal
+
+-- jobs that remark nothing
+abbrev RemarksNone : WordJob → Type 0
+RemarksNone job = ((input : List ℕ) → Remarked job input no_remarks) × ((p : List ℕ) → SoFarRemarked job p no_remarks)
+
+nothing_remarked : (job : WordJob) → RemarksNone job → (given : List ℕ) (how : How) (ending : Ending) → RemarkedAs job given how ending no_remarks
+nothing_remarked job none given how (Worked verdict) = λ rest ok. none.0 (given ++ rest)
+nothing_remarked job none given how (Unread count) = none.1 given
+nothing_remarked job none given how Output = tt
+
+dump_remarks : (texts : Texts) (d : Dictionary) (mode : Mode) (bare : Option Syntax) → RemarksNone (dump_as texts d mode bare)
+dump_remarks Bytes d mode bare = (λ input. refl, λ p. refl)
+dump_remarks Characters d mode bare = (λ input. refl, λ p. refl)
+
+works_on : {R W : Type 0} (r : Reader R) (w : Writer W) (job : WordJob) (before after : R) (held holds : W) (ending : Ending) (ended : Ended) → RemarksNone job → Works r w job before after held holds ending → ended ≡ remarking_nothing ending
+    → WorksOn r w job before after held holds ended
+works_on r w job before after held holds ending ended none works is =
+    subst (WorksOn r w job before after held holds) (sym is) (record { works = works; remarked = nothing_remarked job none works.given works.how ending })
 
 -- a dump needs nothing
 dump_meant : (texts : Texts) (d : Dictionary) (mode : Mode) (bare : Option Syntax) → IsMeant (dump_as texts d mode bare)
@@ -19,25 +45,33 @@ dump_meant Characters d mode bare = tt
 
 pub returns-in-Dump-clause-worked : goal.returns-in-Dump-clause-worked
 returns-in-Dump-clause-worked g c =
-    subst (λ (job : Job Global). Works (members g.R.Device g.R.DeviceIn) (writer g.W.Device g.W.DeviceOut) (job_of job) c.args.input.now c.dump.new.input c.args.out.now c.dump.new.out c.dump.result) (sym c.in-Dump.is) c.dump.ensures
+    let d = c.in-Dump.what in
+    subst (λ (job : Job Global). WorksOn (members g.R.Device g.R.DeviceIn) (writer g.W.Device g.W.DeviceOut) (job_of job) c.args.input.now c.dump.new.input c.args.out.now c.dump.new.out c.remarking_nothing.result) (sym c.in-Dump.is)
+    (works_on (members g.R.Device g.R.DeviceIn) (writer g.W.Device g.W.DeviceOut) _ c.args.input.now c.dump.new.input c.args.out.now c.dump.new.out c.dump.result c.remarking_nothing.result (of_named RemarksNone (named_as d.named) d.texts d.dictionary d.mode d.bare (dump_remarks d.texts d.dictionary d.mode d.bare) (λ input. refl, λ p. refl)) c.dump.ensures c.remarking_nothing.ensures)
 
 pub returns-in-Convert-clause-worked : goal.returns-in-Convert-clause-worked
 returns-in-Convert-clause-worked g c =
-    subst (λ (job : Job Global). Works (members g.R.Device g.R.DeviceIn) (writer g.W.Device g.W.DeviceOut) (job_of job) c.args.input.now c.convert.new.input c.args.out.now c.convert.new.out c.convert.result) (sym c.in-Convert.is) c.convert.ensures
+    let d = c.in-Convert.what in
+    subst (λ (job : Job Global). WorksOn (members g.R.Device g.R.DeviceIn) (writer g.W.Device g.W.DeviceOut) (job_of job) c.args.input.now c.convert.new.input c.args.out.now c.convert.new.out c.remarking_nothing-in-Convert.result) (sym c.in-Convert.is)
+    (works_on (members g.R.Device g.R.DeviceIn) (writer g.W.Device g.W.DeviceOut) _ c.args.input.now c.convert.new.input c.args.out.now c.convert.new.out c.convert.result c.remarking_nothing-in-Convert.result (λ input. refl, λ p. refl) c.convert.ensures c.remarking_nothing-in-Convert.ensures)
 
 pub returns-in-Build-clause-worked : goal.returns-in-Build-clause-worked
 returns-in-Build-clause-worked g c =
-    subst (λ (job : Job Global). Works (members g.R.Device g.R.DeviceIn) (writer g.W.Device g.W.DeviceOut) (job_of job) c.args.input.now c.build.new.input c.args.out.now c.build.new.out c.build.result) (sym c.in-Build.is) c.build.ensures
+    let d = c.in-Build.what in
+    subst (λ (job : Job Global). WorksOn (members g.R.Device g.R.DeviceIn) (writer g.W.Device g.W.DeviceOut) (job_of job) c.args.input.now c.build.new.input c.args.out.now c.build.new.out c.remarking_nothing-in-Build.result) (sym c.in-Build.is)
+    (works_on (members g.R.Device g.R.DeviceIn) (writer g.W.Device g.W.DeviceOut) _ c.args.input.now c.build.new.input c.args.out.now c.build.new.out c.build.result c.remarking_nothing-in-Build.result (λ input. refl, λ p. refl) c.build.ensures c.remarking_nothing-in-Build.ensures)
 
 pub returns-in-Modify-clause-worked : goal.returns-in-Modify-clause-worked
 returns-in-Modify-clause-worked g c =
-    subst (λ (job : Job Global). Works (members g.R.Device g.R.DeviceIn) (writer g.W.Device g.W.DeviceOut) (job_of job) c.args.input.now c.modify.new.input c.args.out.now c.modify.new.out c.modify.result) (sym c.in-Modify.is) c.modify.ensures.worked
+    let d = c.in-Modify.what in
+    subst (λ (job : Job Global). WorksOn (members g.R.Device g.R.DeviceIn) (writer g.W.Device g.W.DeviceOut) (job_of job) c.args.input.now c.modify.new.input c.args.out.now c.modify.new.out c.remarking_nothing-in-Modify.result) (sym c.in-Modify.is)
+    (works_on (members g.R.Device g.R.DeviceIn) (writer g.W.Device g.W.DeviceOut) _ c.args.input.now c.modify.new.input c.args.out.now c.modify.new.out c.modify.result c.remarking_nothing-in-Modify.result (λ input. refl, λ p. refl) c.modify.ensures.worked c.remarking_nothing-in-Modify.ensures)
 
 pub returns-in-Modify-clause-meant : goal.returns-in-Modify-clause-meant
 returns-in-Modify-clause-meant g c = subst (λ (job : Job Global). IsMeant (job_of job)) (sym c.in-Modify.is) c.modify.ensures.meant
 
 pub returns-in-Dump-clause-meant : goal.returns-in-Dump-clause-meant
-returns-in-Dump-clause-meant g c = subst (λ (job : Job Global). IsMeant (job_of job)) (sym c.in-Dump.is) (let d = c.in-Dump.what in dump_meant d.texts d.dictionary d.mode d.bare)
+returns-in-Dump-clause-meant g c = subst (λ (job : Job Global). IsMeant (job_of job)) (sym c.in-Dump.is) (let d = c.in-Dump.what in of_named IsMeant (named_as d.named) d.texts d.dictionary d.mode d.bare (dump_meant d.texts d.dictionary d.mode d.bare) tt)
 
 pub returns-in-Convert-clause-meant : goal.returns-in-Convert-clause-meant
 returns-in-Convert-clause-meant g c = subst (λ (job : Job Global). IsMeant (job_of job)) (sym c.in-Convert.is) tt
@@ -47,7 +81,7 @@ returns-in-Build-clause-meant g c = subst (λ (job : Job Global). IsMeant (job_o
 
 pub returns-in-Deidentify-clause-worked : goal.returns-in-Deidentify-clause-worked
 returns-in-Deidentify-clause-worked g c =
-    subst (λ (job : Job Global). Works (members g.R.Device g.R.DeviceIn) (writer g.W.Device g.W.DeviceOut) (job_of job) c.args.input.now c.deidentify.new.input c.args.out.now c.deidentify.new.out c.deidentify.result) (sym c.in-Deidentify.is) c.deidentify.ensures
+    subst (λ (job : Job Global). WorksOn (members g.R.Device g.R.DeviceIn) (writer g.W.Device g.W.DeviceOut) (job_of job) c.args.input.now c.deidentify.new.input c.args.out.now c.deidentify.new.out c.deidentify.result) (sym c.in-Deidentify.is) c.deidentify.ensures
 
 pub returns-in-Deidentify-clause-meant : goal.returns-in-Deidentify-clause-meant
 returns-in-Deidentify-clause-meant g c = subst (λ (job : Job Global). IsMeant (job_of job)) (sym c.in-Deidentify.is) tt

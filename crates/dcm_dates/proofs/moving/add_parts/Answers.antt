@@ -35,11 +35,11 @@ loop-at-preserved c =
     let first = all_first c.args.kind z rest c.in-Some.at (sym c.in-Some.ensures) in
     let part : moved_part c.args.kind z (take c.in-Some.at rest) ≡ Some added.0 = ap (moved_part c.args.kind z) (sym c.split_at.ensures.front) ∙ added.1 in
     let whole = c.loop-at.invariant.same ∙ ap (behind c.loop-at.out.items) first in
-    let out : c.append.new.out.items ≡ (c.loop-at.out.items ++ added.0) ++ 92 ∷ [] = c.append.ensures ∙ ap (λ (l : List ℕ). l ++ 92 ∷ []) added.2 in
+    let out : c.append.new.text.items ≡ (c.loop-at.out.items ++ added.0) ++ 92 ∷ [] = c.append.ensures ∙ ap (λ (l : List ℕ). l ++ 92 ∷ []) added.2 in
     record {
       same = took (all_moved c.args.kind z c.args.text.now) (moved_part c.args.kind z (take c.in-Some.at rest)) (all_moved c.args.kind z (drop (c.in-Some.at + 1) rest)) c.loop-at.out.items added.0 whole part
           ∙ ap (λ (l : List ℕ). behind l (all_moved c.args.kind z (drop (c.in-Some.at + 1) rest))) (sym out)
-          ∙ ap (λ (l : List ℕ). behind c.append.new.out.items (all_moved c.args.kind z l)) next;
+          ∙ ap (λ (l : List ℕ). behind c.append.new.text.items (all_moved c.args.kind z l)) next;
       size = omega (arith, ap length c.append.ensures, length-append c.add_part.new.out.items (92 ∷ []), ap length added.2, length-append c.loop-at.out.items added.0, size, c.split_at.ensures.front_len, c.split_at.ensures.back_len, c.split_at-in-Some.ensures.back_len);
     }
 

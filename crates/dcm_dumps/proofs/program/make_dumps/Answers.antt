@@ -16,4 +16,4 @@ returns-clause-makes g c =
     (subst (λ r. g.S.System.may_do.stdout c.args.system.now r c.stdout.new.self) c.in-Ok.is c.stdout.ensures)
     (subst (λ x. PutsDumps (ShowsMeant g.S.System.may_do (members g.S.Input.Device g.S.Input.DeviceIn) (writer g.S.Output.Device g.S.Output.DeviceOut) (dumps_as c.args.plan) c.in-Ok.output.kind)
     (change_of (writer g.E.Device g.E.DeviceOut) c.args.errors.now c.put_dumps-status.new.errors) x c.put_dumps-status.new.out c.stdout.new.self c.put_dumps-status.result c.put_dumps-status.new.system) c.new-out.ensures c.put_dumps-status.ensures.puts)
-    (search rules)
+    (record { answer = c.close.result; call = search rules })

@@ -30,14 +30,14 @@ fn writing_fails(rt: HostRuntime) -> Result<(), Fail> {
 fn what_is_decided_is_written(rt: HostRuntime) -> Result<(), Fail> {
     let [_, open, _] = text_cuts();
     let sizes = [
-        (201, 441),
-        (201, 445),
-        (200, 441),
-        (200, 446),
-        (207, 441),
-        (207, 445),
-        (210, 443),
-        (199, 442),
+        (201, 458),
+        (201, 462),
+        (200, 458),
+        (200, 463),
+        (207, 458),
+        (207, 462),
+        (210, 460),
+        (199, 459),
     ];
     for (row, size) in open.iter().zip(sizes) {
         expect_written(rt.alloc(), row, &[size])?;

@@ -1,6 +1,9 @@
-use Rattle.std.proofs.Common.{rules, refl}
-use Rattle.dcm_files.specs.Devices.{out_no_text}
+use Rattle.std.proofs.Common.{rules}
+use Rattle.dcm_files.specs.Devices.{to_stream, to_file}
 use Rattle.dcm_files.proofs.devices.open_output.Goals as goal
 
-pub returns-in_err-path : goal.returns-in_err-path
-returns-in_err-path g c = out_no_text c.in_err-path.field-0.0 (search rules) (search rules) (search rules) (search rules) refl
+pub returns-then-eq : goal.returns-then-eq
+returns-then-eq g c = to_stream (search rules) c.open_stream.ensures
+
+pub returns : goal.returns
+returns g c = to_file (search rules) c.open_file.ensures

@@ -1,4 +1,5 @@
 use Rattle.std.proofs.Common.{◌≡◌, ◌≤◌, ◌∙◌, sym, ap, refl, List, ℕ, length, drop, Some}
+use Rattle.dcm_lemmas.proofs.Lists.{tail_is}
 use Rattle.dcm_base.specs.declared.tag.Tag.{Tag}
 use Rattle.dcm_base.specs.declared.vr.Vr.{Vr}
 use Rattle.dcm_base.specs.declared.syntax.Syntax.{Syntax}
@@ -11,7 +12,6 @@ use Rattle.dcm_base.specs.declared.dictionary.Dictionary.{Dictionary}
 use Rattle.dcm_base.specs.Tables.Syntax.{Implicit}
 use Rattle.dcm_head.specs.declared.head.HeadRead.TheVariants.{Done}
 use Rattle.dcm_head.specs.HeadRead.{element_read}
-use Rattle.dcm_head.proofs.Heads.Explicit.{tail_is}
 use Rattle.dcm_head.proofs.Heads.Reads.{element_whole}
 use Rattle.dcm_head.proofs.head.read_element.Goals as goal
 

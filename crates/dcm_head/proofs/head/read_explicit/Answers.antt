@@ -1,8 +1,9 @@
 use Rattle.std.proofs.Common.{List, ℕ, sym, ◌∙◌, ap, true, false}
+use Rattle.dcm_lemmas.proofs.Lists.{tail_is}
 use Rattle.dcm_base.specs.declared.length.Length.TheVariants.{Known}
 use Rattle.dcm_base.specs.Tables.Number.{number}
 use Rattle.dcm_base.specs.Bytes.Head.{long_length}
-use Rattle.dcm_head.proofs.Heads.Explicit.{vr_is, size_is, length_is, tail_is, none_from}
+use Rattle.dcm_head.proofs.Heads.Explicit.{vr_is, size_is, length_is, none_from}
 use Rattle.dcm_head.proofs.Heads.Reads.{element_missing, element_short, element_whole}
 use Rattle.dcm_head.proofs.head.read_explicit.Goals as goal
 

@@ -1,8 +1,8 @@
 use Rattle.std.proofs.Common.{◌∙◌, sym, ap, List, ℕ}
 use Rattle.std.proofs.lemmas.Bool.{ne_eqb}
+use Rattle.dcm_lemmas.proofs.Lists.{tail_is}
 use Rattle.dcm_base.specs.declared.syntax.Syntax.TheVariants.{Little as little_in}
 use Rattle.dcm_base.specs.Tables.Number.{number}
-use Rattle.dcm_head.proofs.Heads.Explicit.{tail_is}
 use Rattle.dcm_head.proofs.Heads.Short.{begins_short}
 use Rattle.dcm_head.proofs.head.read_short_head.Goals as goal
 

@@ -1,10 +1,10 @@
 use Rattle.std.proofs.Common.{List, ℕ, sym, ap, ◌∙◌, refl, true, false}
+use Rattle.dcm_lemmas.proofs.Lists.{tail_is}
 use Rattle.dcm_base.specs.declared.vr.Vr.TheVariants.{UN}
 use Rattle.dcm_base.specs.Tables.Number.{number}
 use Rattle.dcm_base.specs.Bytes.Head.{long_length}
 use Rattle.dcm_head.specs.declared.head.HeadRead.TheVariants.{Done}
 use Rattle.dcm_head.specs.HeadRead.{is_delimiter}
-use Rattle.dcm_head.proofs.Heads.Explicit.{tail_is}
 use Rattle.dcm_head.proofs.Heads.Reads.{by_tests}
 use Rattle.dcm_head.proofs.head.read_tagged.Goals as goal
 

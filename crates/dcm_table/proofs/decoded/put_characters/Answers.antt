@@ -1,9 +1,9 @@
 use Rattle.std.proofs.Common.{◌≡◌, rules, refl, subst, ap, ◌∙◌, true, List, ℕ, ◌++◌}
+use Rattle.dcm_sinks.proofs.DecodedDumps.Characters.{TextSoFar, text_failed, text_more, text_none}
 use Rattle.dcm_text.specs.Decoding.{piece_of}
 use Rattle.dcm_text.specs.Runs.{run, state_of}
 use Rattle.dcm_text.specs.Shown.{cell}
 use Rattle.dcm_table.specs.Quoted.{doubled}
-use Rattle.dcm_table.proofs.Texts.{TextSoFar, text_none, text_more, text_failed}
 use Rattle.dcm_table.proofs.DecodedTexts.{shown, cell_run, shown_step, all_written}
 use Rattle.dcm_table.proofs.decoded.put_characters.Goals as goal
 

@@ -3,7 +3,7 @@ use Rattle.std.specs.Prelude.{flat_map}
 use Rattle.dcm_text.specs.Runs.{run, state_of, bytes_left}
 use Rattle.dcm_text.specs.Shown.{cell, cell_piece}
 use Rattle.dcm_table.specs.Quoted as spec
-use Rattle.dcm_table.proofs.Texts.{TextSoFar}
+use Rattle.dcm_sinks.proofs.DecodedDumps.Characters.{TextSoFar}
 use Rattle.dcm_table.proofs.decoded.put_characters.Given as goal
 
 -- the pieces so far went out

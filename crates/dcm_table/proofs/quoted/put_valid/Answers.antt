@@ -1,8 +1,9 @@
 use Rattle.std.specs.Prelude.{slice_index}
 use Rattle.std.proofs.Common.{rules, refl, drop, sym, subst, ◌∙◌, List, ℕ, ◌<◌, length}
 use Rattle.dcm_devices.specs.Device.{Puts}
+use Rattle.dcm_sinks.proofs.DecodedDumps.Characters.{text_failed, text_more, text_none}
 use Rattle.dcm_table.specs.Quoted as spec
-use Rattle.dcm_table.proofs.Texts.{text_none, text_more, text_last, text_failed, text_failed_first, text_step, went_twice, broke_second, valid_all}
+use Rattle.dcm_table.proofs.Texts.{text_last, text_failed_first, text_step, went_twice, broke_second, valid_all}
 use Rattle.dcm_table.proofs.quoted.put_valid.Goals as goal
 
 pub loop-error-init : goal.loop-error-init

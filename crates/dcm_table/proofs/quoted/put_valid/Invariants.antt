@@ -1,6 +1,6 @@
 use Rattle.std.proofs.Common.{◌≡◌, length}
 use Rattle.dcm_table.specs.Quoted as spec
-use Rattle.dcm_table.proofs.Texts.{TextSoFar}
+use Rattle.dcm_sinks.proofs.DecodedDumps.Characters.{TextSoFar}
 use Rattle.dcm_table.proofs.quoted.put_valid.Given as goal
 
 -- the bytes so far went out

@@ -1,6 +1,7 @@
 use Rattle.std.proofs.Common.{◌∙◌, sym, ◌++◌, ◌∷◌, [], drop, arith, length-append}
 use Rattle.dcm_table_words.specs.Table.{Column}
 use Rattle.dcm_table_words.specs.Columns.{column_as}
+use Rattle.dcm_table_words.specs.declared.saying.Tool.TheVariants.{Table}
 use Rattle.dcm_table_words.specs.Said.{said_as, sayings_of}
 use Rattle.dcm_table_words.proofs.Columns.{column_more, kept_more, on_same, some_wide, all_meant}
 use Rattle.dcm_table_words.proofs.plan.columns_in.Goals as goal
@@ -21,4 +22,4 @@ loop-saying-preserved-in-Ok c =
 pub returns : goal.returns
 returns c =
     let loop = c.loop-saying.invariant in
-    all_meant (sayings_of c.args.words.now) (sayings_of (drop c.loop-saying.at c.args.words.now)) loop.read _ c.loop-saying.number loop.same c.in_default.ensures loop.counted loop.kept c.if-number-eq0.false c.if-number-gt-MOST_COLUMNS.false
+    all_meant (sayings_of Table c.args.words.now) (sayings_of Table (drop c.loop-saying.at c.args.words.now)) loop.read _ c.loop-saying.number loop.same c.in_default.ensures loop.counted loop.kept c.if-number-eq0.false c.if-number-gt-MOST_COLUMNS.false

@@ -2,6 +2,7 @@ use Rattle.std.proofs.Common.{◌≡◌, ◌≤◌, ◌-◌, List, drop, take, l
 use Rattle.std.specs.Prelude.{filter_map}
 use Rattle.dcm_table_words.specs.Table.{Column, columns_after, column_said}
 use Rattle.dcm_table_words.specs.Columns.{column_as}
+use Rattle.dcm_table_words.specs.declared.saying.Tool.TheVariants.{Table}
 use Rattle.dcm_table_words.specs.Said.{sayings_of}
 use Rattle.dcm_table_words.proofs.Columns.{after_columns}
 use Rattle.dcm_table_words.proofs.plan.columns_in.Given as goal
@@ -10,7 +11,7 @@ use Rattle.dcm_table_words.proofs.plan.columns_in.Given as goal
 abbrev pub invariant-loop-saying : goal.invariant-loop-saying
 invariant-loop-saying l = record {
   read : List Column;
-  same : columns_after 0 (filter_map column_said (sayings_of l.words)) ≡ after_columns read (columns_after l.number (filter_map column_said (sayings_of (drop l.at l.words))));
+  same : columns_after 0 (filter_map column_said (sayings_of Table l.words)) ≡ after_columns read (columns_after l.number (filter_map column_said (sayings_of Table (drop l.at l.words))));
   counted : length read ≡ l.number;
   kept : map column_as l.columns.items ≡ take 64 read;
   few : l.number ≤ l.at;

@@ -16,4 +16,4 @@ returns-clause-makes g c =
     (subst (λ r. g.S.System.may_do.stdout c.args.system.now r c.stdout.new.self) c.in-Ok-stdout.is c.stdout.ensures)
     (subst (λ x. PutsTable (writer g.S.Output.Device g.S.Output.DeviceOut) (WritesMeant g.S.System.may_do (members g.S.Input.Device g.S.Input.DeviceIn) (writer g.S.Output.Device g.S.Output.DeviceOut) (table_as c.args.plan.now))
     (change_of (writer g.E.Device g.E.DeviceOut) c.args.errors.now c.put_table-status.new.errors) x c.put_table-status.new.out c.stdout.new.self c.put_table-status.result c.put_table-status.new.system) c.new-out.ensures c.put_table-status.ensures.puts)
-    (search rules)
+    (record { answer = c.close.result; call = search rules })

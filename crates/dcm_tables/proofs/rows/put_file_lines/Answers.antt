@@ -1,7 +1,7 @@
 use Rattle.std.proofs.Common.{rules, []}
 use Rattle.dcm_devices.proofs.Writes.Puts.{puts_behind}
+use Rattle.dcm_table.proofs.Texts.{two_failed}
 use Rattle.dcm_tables.specs.Rows.{long_lines, end_lines}
-use Rattle.dcm_tables.proofs.LinesOut.{two_failed}
 use Rattle.dcm_tables.proofs.rows.put_file_lines.Goals as goal
 
 pub returns-in_err-put_long_lines : goal.returns-in_err-put_long_lines

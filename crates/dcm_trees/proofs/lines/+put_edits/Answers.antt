@@ -1,14 +1,15 @@
 use Rattle.std.proofs.Common.{◌∙◌, ap, sym, subst, rules, arith, refl, ℕ, List}
 use Rattle.std.specs.Io.KnownBytes.{append_known}
+use Rattle.dcm_lemmas.proofs.Options.{known_nothing}
 use Rattle.dcm_devices.specs.Device.{Puts}
-use Rattle.dcm_devices.proofs.Writes.Puts.{append_known_none, puts_behind}
+use Rattle.dcm_devices.proofs.Writes.Puts.{puts_behind}
 use Rattle.dcm_table.proofs.Texts.{two_failed}
 use Rattle.dcm_trees.proofs.Ends.{lines_none, lines_more}
 use Rattle.dcm_trees.proofs.lines.+put_edits.Goals as goal
 
 pub returns-then-count-eq0 : goal.returns-then-count-eq0
 returns-then-count-eq0 g t c = record {
-  bytes = sym (append_known_none _) ∙ ap (append_known (g.E.DeviceOut.contents c.args.errors.now)) (sym (lines_none c.args.name.now c.args.count c.args.edit c.args.mask (omega (arith, c.if-count-eq0.true))));
+  bytes = sym (known_nothing _) ∙ ap (append_known (g.E.DeviceOut.contents c.args.errors.now)) (sym (lines_none c.args.name.now c.args.count c.args.edit c.args.mask (omega (arith, c.if-count-eq0.true))));
   failed = refl;
 }
 

@@ -4,7 +4,7 @@ use Rattle.dcm_trees.specs.Tree as spec
 use Rattle.dcm_trees.proofs.tree.do_names.Goals as goal
 
 pub returns-in-Ok-clause-does : goal.returns-in-Ok-clause-does
-returns-in-Ok-clause-does g c = spec.was_begun c.in-Ok.begun c.begin.new.system (begins_as c.as_slice.ensures.value c.part_name-part.ensures c.in-Ok.ensures) c.visit_list.ensures.visits
+returns-in-Ok-clause-does g c = spec.was_begun c.in-Ok.begun c.begin.new.errors c.begin.new.system (begins_as c.as_slice.ensures.value c.part_name-part.ensures c.spared_with.ensures c.in-Ok.ensures) c.visit_list.ensures.visits
 
 pub returns-in-Err-clause-does : goal.returns-in-Err-clause-does
-returns-in-Err-clause-does g c = spec.not_begun c.in-Err.refusal (begins_as c.as_slice.ensures.value c.part_name-part.ensures c.in-Err.ensures) c.refuse.ensures.refuses c.refuse.ensures.manifest refl
+returns-in-Err-clause-does g c = spec.not_begun c.in-Err.refusal c.begin.new.errors (begins_as c.as_slice.ensures.value c.part_name-part.ensures c.spared_with.ensures c.in-Err.ensures) c.refuse.ensures.refuses c.refuse.ensures.manifest refl

@@ -1,6 +1,6 @@
 use Rattle.std.proofs.Common.{ap}
 use Rattle.dcm_uid.specs.Pseudonym.{pseudonym, pseudonym_of}
-use Rattle.dcm_uid.proofs.Pseudonyms.{pseudonyms_none, pseudonyms_form}
+use Rattle.dcm_uid.proofs.Pseudonyms.{pseudonyms_none, pseudonyms_form, pseudonyms_by_code}
 use Rattle.dcm_uid.proofs.laws.pseudonyms_agree.Goals as goal
 
 pub returns-clause-agree : goal.returns-clause-agree
@@ -12,3 +12,6 @@ returns-clause-none c = pseudonyms_none
 
 pub returns-clause-form : goal.returns-clause-form
 returns-clause-form c = pseudonyms_form
+
+pub returns-clause-by_code : goal.returns-clause-by_code
+returns-clause-by_code c = pseudonyms_by_code

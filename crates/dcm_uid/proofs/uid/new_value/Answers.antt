@@ -19,7 +19,7 @@ returns-then-is_standard c k held =
     let b = c.without_pads-b.result.now in
     let one : spec.is_one_uid b ≡ true = search rules in
     let standard : spec.is_standard b ≡ true = search rules in
-    let result : c.append.new.out.items ≡ b = rw (c.append.ensures, c.new-out.ensures) refl in
+    let result : c.append.new.text.items ≡ b = rw (c.append.ensures, c.new-out.ensures) refl in
     rw (← c.without_pads-b.ensures.value) (rw (own (spec.is_one_uid b) (spec.is_standard b) b (new_uid k b) one standard) result)
 
 -- a new one
@@ -29,6 +29,6 @@ returns-else-is_standard c k held =
     let b = c.without_pads-b.result.now in
     let one : spec.is_one_uid b ≡ true = search rules in
     let standard : spec.is_standard b ≡ false = search rules in
-    let result : c.append-else-is_standard.new.out.items ≡ new_uid k b =
+    let result : c.append-else-is_standard.new.text.items ≡ new_uid k b =
     rw (c.append-else-is_standard.ensures, c.as_slice.ensures.value, c.new-out.ensures, c.new_uid.ensures.value k held) refl in
     rw (← c.without_pads-b.ensures.value) (rw (anew (spec.is_one_uid b) (spec.is_standard b) b (new_uid k b) one standard) result)

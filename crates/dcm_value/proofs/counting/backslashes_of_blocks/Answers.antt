@@ -1,7 +1,7 @@
 use Rattle.std.proofs.Common.{◌≡◌, ◌+◌, ◌*◌, ◌==◌, ◌∙◌, ap, sym, arith, ℕ, List, take}
 use Rattle.std.specs.Prelude.{count_by}
 use Rattle.std.proofs.lemmas.List.Sums.{count_by-le-length}
-use Rattle.dcm_value.proofs.Displays.Facts.{take_within}
+use Rattle.std.proofs.lemmas.List.{take_all}
 use Rattle.dcm_value.proofs.Displays.TextLanes.{count_more}
 use Rattle.dcm_value.proofs.counting.backslashes_of_blocks.Goals as goal
 
@@ -19,7 +19,7 @@ loop-block-preserved c =
 pub returns-clause-count : goal.returns-clause-count
 returns-clause-count c =
     let v : List ℕ = c.args.bytes.now in
-    c.loop-block.invariant.count ∙ ap (count_by (λ b. b == 92)) (take_within (64 * c.loop-block.block) v (omega arith))
+    c.loop-block.invariant.count ∙ ap (count_by (λ b. b == 92)) (take_all (64 * c.loop-block.block) v (omega arith))
 
 pub returns-clause-bound : goal.returns-clause-bound
 returns-clause-bound c = omega (arith, returns-clause-count c, count_by-le-length (λ b. b == 92) c.args.bytes.now)

@@ -1,7 +1,7 @@
 use Rattle.std.proofs.Common.{◌≡◌, ◌+◌, ◌*◌, ◌∙◌, ap, sym, arith, ℕ, List, take, true}
 use Rattle.std.specs.List.{list_all}
+use Rattle.std.proofs.lemmas.List.{take_all}
 use Rattle.dcm_value.specs.Plain.{is_plain_byte}
-use Rattle.dcm_value.proofs.Displays.Facts.{take_within}
 use Rattle.dcm_value.proofs.Displays.TextLanes.{plain_more, plain_not, none_escaped, some_escaped}
 use Rattle.dcm_value.proofs.escapes.are_plain_blocks.Goals as goal
 
@@ -20,4 +20,4 @@ pub returns : goal.returns
 returns c =
     let v : List ℕ = c.args.bytes.now in
     let here : list_all is_plain_byte (take (64 * c.loop-block.block) v) ≡ true = c.loop-block.invariant in
-    sym (ap (list_all is_plain_byte) (sym (take_within (64 * c.loop-block.block) v (omega arith))) ∙ here)
+    sym (ap (list_all is_plain_byte) (sym (take_all (64 * c.loop-block.block) v (omega arith))) ∙ here)

@@ -1,5 +1,6 @@
-use Rattle.std.proofs.Common.{List, [], ℕ, Bor}
-use Rattle.dcm_words.proofs.PathsApart.{few_words, two_here, no_input, no_output}
+use Rattle.std.proofs.Common.{List, [], ℕ, Bor, ap, ◌∙◌}
+use Rattle.dcm_words.proofs.PathsApart.{few_words, two_here, no_input, no_output, with_settings}
+use Rattle.dcm_words.proofs.ModifyWords.{between}
 use Rattle.dcm_words.proofs.places.paths_at_end.Goals as goal
 use Rattle.dcm_words.proofs.places.paths_at_end.Goals.{then-not-is_path-via-then-not-is_path, then-not-is_path-via-else-not-is_path+then-not-is_path-2}
 
@@ -17,4 +18,6 @@ returns-then-not-is_path c =
     ]
 
 pub returns : goal.returns
-returns c = two_here c.args.words.now no_word c.in-len2-up.len_at_least c.if-not-is_path.ensures c.if-not-is_path-2.ensures
+returns c =
+    ap (with_settings (between c.args.words.now no_word c.in-len2-up.len_at_least)) c.settings_of.ensures
+    ∙ two_here c.args.words.now no_word c.in-len2-up.len_at_least c.if-not-is_path.ensures c.if-not-is_path-2.ensures

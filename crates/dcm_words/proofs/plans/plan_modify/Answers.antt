@@ -31,7 +31,7 @@ returns-then-not-is_path-clause-memory g c = λ none.
 pub returns-clause-meant : goal.returns-clause-meant
 returns-clause-meant g c =
     let words = between c.args.words.now no_word c.in-len2-up.len_at_least in
-    let meant = subst (λ d. GivesUnlessMemory c.plan_edits.result (modify_plan_in d words)) c.dictionary_said.ensures c.plan_edits.ensures in
+    let meant = subst (λ s. GivesUnlessMemory c.plan_edits.result (modify_plan_in s words)) c.settings_of.ensures c.plan_edits.ensures in
     subst
     (λ m. GivesUnlessMemory c.plan_edits.result m)
     (sym (two_paths c.args.words.now no_word c.in-len2-up.len_at_least c.if-not-is_path.ensures c.if-not-is_path-2.ensures))

@@ -9,9 +9,9 @@ pub returns-in_default : goal.returns-in_default
 returns-in_default g c = λ ps are. elim c.in_default.branch [
   | in_default-via-in-Two+then-not-is_empty+else-not-is_empty-2 w ↦ (
       let two = subst (λ (p : Paths). PathsAre p ps) w.in-Two.is are in
-      subst (AreWrong (job_of c.args.job)) (sym two) (empty_second (job_of c.args.job) w.in-Two.input.now w.in-Two.output.now (sym w.is_empty-then-not-is_empty.ensures ∙ w.if-not-is_empty-2.false)))
+      subst (AreWrong c.args.overwrites (job_of c.args.job)) (sym two) (empty_second c.args.overwrites (job_of c.args.job) w.in-Two.input.now w.in-Two.output.now (sym w.is_empty-then-not-is_empty.ensures ∙ w.if-not-is_empty-2.false)))
   | in_default-via-in-Two+else-not-is_empty w ↦ (
       let two = subst (λ (p : Paths). PathsAre p ps) w.in-Two.is are in
-      subst (AreWrong (job_of c.args.job)) (sym two) (empty_first (job_of c.args.job) w.in-Two.input.now w.in-Two.output.now (sym w.is_empty.ensures ∙ w.if-not-is_empty.false)))
-  | in_default-via-in_default w ↦ not_two (job_of c.args.job) c.args.paths ps w.in_default.not-Two are
+      subst (AreWrong c.args.overwrites (job_of c.args.job)) (sym two) (empty_first c.args.overwrites (job_of c.args.job) w.in-Two.input.now w.in-Two.output.now (sym w.is_empty.ensures ∙ w.if-not-is_empty.false)))
+  | in_default-via-in_default w ↦ not_two c.args.overwrites (job_of c.args.job) c.args.paths ps w.in_default.not-Two are
 ]

@@ -1,6 +1,6 @@
 use Rattle.std.proofs.Common.{◌≡◌, ◌++◌, ◌∙◌, ap, sym, ℕ, length, take, [], append_assoc, refl, List, ◌+◌, length-append, arith, None}
 use Rattle.std.proofs.lemmas.List.{take-append-drop, append-nil, length-take-le}
-use Rattle.dcm_devices.proofs.Writes.Puts.{append_known_none}
+use Rattle.dcm_lemmas.proofs.Options.{known_nothing}
 use Rattle.dcm_stream.proofs.Runs.Calls.{empty_by}
 use Rattle.dcm_build.specs.Builder.{building}
 use Rattle.dcm_build.proofs.Files.Calls.{fed_on, fed_halted, tells_halted}
@@ -10,7 +10,7 @@ pub loop-rest-init : goal.loop-rest-init
 loop-rest-init g c = record {
   front = [];
   whole = refl;
-  feeds = (refl, sym (append_known_none (g.W.DeviceOut.contents c.args.out.now)));
+  feeds = (refl, sym (known_nothing (g.W.DeviceOut.contents c.args.out.now)));
   stands = c.requires;
   size = omega arith;
   within = λ le. le;

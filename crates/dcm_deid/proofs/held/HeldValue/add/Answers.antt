@@ -1,5 +1,6 @@
 use Rattle.std.proofs.Common.{◌∙◌, refl, sym, ap, fold, [], slice_index_or}
-use Rattle.dcm_base.proofs.Writes.Runs.{take_within, fold_more}
+use Rattle.std.proofs.lemmas.List.{take_all}
+use Rattle.dcm_base.proofs.Writes.Runs.{fold_more}
 use Rattle.dcm_deid.specs.DeidentifySink as spec
 use Rattle.dcm_deid.specs.DeidentifySink.{Held}
 use Rattle.dcm_deid.specs.Deidentifying.{held}
@@ -14,4 +15,4 @@ loop-byte-preserved c =
     ∙ sym (fold_more spec.held_with (λ h b. []) (held c.args.self.now) c.args.bytes.now c.loop-byte.byte-index 0 c.loop-byte-test.true)
 
 pub returns : goal.returns
-returns c = c.loop-byte.invariant ∙ ap (fold spec.held_with (held c.args.self.now)) (take_within c.loop-byte.byte-index c.args.bytes.now c.loop-byte-test.false)
+returns c = c.loop-byte.invariant ∙ ap (fold spec.held_with (held c.args.self.now)) (take_all c.loop-byte.byte-index c.args.bytes.now c.loop-byte-test.false)

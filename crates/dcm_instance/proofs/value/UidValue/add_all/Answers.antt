@@ -1,5 +1,6 @@
 use Rattle.std.proofs.Common.{◌∙◌, refl, sym, ap, fold, ℕ, List, [], slice_index_or}
-use Rattle.dcm_base.proofs.Writes.Runs.{take_within, fold_more}
+use Rattle.std.proofs.lemmas.List.{take_all}
+use Rattle.dcm_base.proofs.Writes.Runs.{fold_more}
 use Rattle.dcm_instance.specs.UidSink.{Held, Value, held_with}
 use Rattle.dcm_instance.proofs.value.UidValue.add_all.Goals as goal
 
@@ -15,4 +16,4 @@ loop-byte-preserved c =
 pub returns : goal.returns
 returns c =
     c.loop-byte.invariant
-    ∙ ap (λ (bs : List ℕ). let x : Value = record { progress = c.args.self.now.progress; held = fold held_with c.args.self.now.held bs } in x) (take_within c.loop-byte.byte-index c.args.bytes.now c.loop-byte-test.false)
+    ∙ ap (λ (bs : List ℕ). let x : Value = record { progress = c.args.self.now.progress; held = fold held_with c.args.self.now.held bs } in x) (take_all c.loop-byte.byte-index c.args.bytes.now c.loop-byte-test.false)

@@ -1,6 +1,6 @@
 use Rattle.std.proofs.Common.{◌≡◌, ◌∙◌, ap, ◌+◌, ◌-◌, ◌≤◌, ◌<◌, ℕ, List, ◌++◌, length, take, arith}
+use Rattle.dcm_lemmas.proofs.Options.{on_ok}
 use Rattle.dcm_names.proofs.Kept.{all_kept, as_long, front_kept, longer_now}
-use Rattle.dcm_names.proofs.Texts.{on_ok}
 use Rattle.dcm_names.proofs.list.OpenLine.keep.Goals as goal
 
 pub returns-then-bytes-room : goal.returns-then-bytes-room

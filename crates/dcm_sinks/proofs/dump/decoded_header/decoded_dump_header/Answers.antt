@@ -13,7 +13,7 @@ use Rattle.dcm_sinks.proofs.dump.decoded_header.decoded_dump_header.Goals as goa
 
 -- what stands before the lines of the meta group
 abbrev before : List ℕ
-before = codes "# Dicom-File-Format" ++ 10 ∷ 10 ∷ [] ++ codes "# Dicom-Meta-Information-Header" ++ 10 ∷ [] ++ codes "# Used TransferSyntax: LittleEndianExplicit" ++ 10 ∷ []
+before = codes "# Dicom-File-Format (texts in UTF-8)" ++ 10 ∷ 10 ∷ [] ++ codes "# Dicom-Meta-Information-Header" ++ 10 ∷ [] ++ codes "# Used TransferSyntax: LittleEndianExplicit" ++ 10 ∷ []
 
 three : (xs ys zs : List ℕ) → ((before ++ xs) ++ ys) ++ zs ≡ before ++ (xs ++ (ys ++ zs))
 three xs ys zs = append_assoc (before ++ xs) ys zs ∙ append_assoc before xs (ys ++ zs)
@@ -48,8 +48,8 @@ pub returns : goal.returns
 returns g c =
     let rest : List ℕ = 10 ∷ [] ++ decoded_set_header (uid_of c.args.meta.now) in
     record {
-      bytes = λ elements s m. parts_put _ _ _ before _ _ _ _ c.decoded_set_header.result refl refl (in_parts c.args.dictionary c.args.mode elements (uid_of c.args.meta.now)) c.in_ok-put_all.ensures.wrote.bytes
-          (parts_put _ _ _ _ _ rest _ _ c.decoded_set_header.result refl refl refl (c.in_ok-put_decoded_elements.ensures.bytes elements (subst (Spells Little elements) (sym c.bytes.ensures.group) s) m)
-          (parts_put _ _ _ (10 ∷ []) _ (decoded_set_header (uid_of c.args.meta.now)) _ _ c.decoded_set_header.result refl refl refl c.in_ok-put_all-2.ensures.wrote.bytes (rw (c.as_bytes.ensures.value ∙ c.uid.ensures) at c.decoded_set_header.ensures.bytes)));
+      bytes = λ elements s m. parts_put _ _ _ before _ _ _ _ c.put_set_header.result refl refl (in_parts c.args.dictionary c.args.mode elements (uid_of c.args.meta.now)) c.in_ok-put_all.ensures.wrote.bytes
+          (parts_put _ _ _ _ _ rest _ _ c.put_set_header.result refl refl refl (c.in_ok-put_decoded_elements.ensures.bytes elements (subst (Spells Little elements) (sym c.bytes.ensures.group) s) m)
+          (parts_put _ _ _ (10 ∷ []) _ (decoded_set_header (uid_of c.args.meta.now)) _ _ c.put_set_header.result refl refl refl c.in_ok-put_all-2.ensures.wrote.bytes (rw (c.as_bytes.ensures.value ∙ c.uid.ensures) at c.put_set_header.ensures.bytes)));
       failed = search rules;
     }

@@ -1,13 +1,13 @@
 use Rattle.std.proofs.Common.{rules, ◌∙◌, refl, sym, ap, arith}
 use Rattle.std.specs.Io.KnownBytes.{append_known}
-use Rattle.dcm_devices.proofs.Writes.Puts.{append_known_none}
+use Rattle.dcm_lemmas.proofs.Options.{known_nothing}
 use Rattle.dcm_sinks.proofs.Dumps.MetaLines.{left_all, left_more, left_none, first_form, failed_at, gone_more}
 use Rattle.dcm_sinks.proofs.dump.header.put_elements.Goals as goal
 
 pub elements-init : goal.elements-init
 elements-init g c = record {
   within = c.requires;
-  gone = λ all s m. (left_all c.args.dictionary c.args.mode c.args.group.now all s m, sym (append_known_none _));
+  gone = λ all s m. (left_all c.args.dictionary c.args.mode c.args.group.now all s m, sym (known_nothing _));
   failed = refl;
 }
 

@@ -1,6 +1,7 @@
 use Rattle.std.proofs.Common.{◌≡◌, ◌∙◌, ◌-◌, ◌+◌, ◌≤◌, ◌++◌, ap, ℕ, List, length, take, min, arith}
+use Rattle.dcm_lemmas.proofs.Options.{went_well}
 use Rattle.dcm_stream.specs.Reading.{Sign}
-use Rattle.dcm_stream.proofs.Containers.SignBytes.{kept_least, went_well}
+use Rattle.dcm_stream.proofs.Containers.SignBytes.{kept_least}
 use Rattle.dcm_stream.proofs.sign.OpenSign.read.Goals as goal
 
 -- there is room for what is kept

@@ -1,16 +1,16 @@
 use Rattle.std.proofs.Common.{◌≡◌, ℕ, Bool, true, cond, List, ◌++◌, length, take, min, ap, sym, ◌∙◌, arith, append_assoc, codes, inl, inr}
 use Rattle.std.proofs.lemmas.Bool.{cases_lt}
 use Rattle.std.proofs.Math.Seq.{take-length}
+use Rattle.std.proofs.lemmas.List.{take_all}
 use Rattle.dcm_value.specs.Display.{Display, is_cut, ending}
 use Rattle.dcm_value.specs.Decoded.{cut_size}
 use Rattle.dcm_value.specs.Shown.{display_of}
-use Rattle.dcm_value.proofs.Displays.Facts.{take_within}
 use Rattle.dcm_value.proofs.display.Shown.append_decoded_end.Goals as goal
 
 take_less : (n : ℕ) (xs : List ℕ) → take (min n (length xs)) xs ≡ take n xs
 take_less n xs = elim (cases_lt n (length xs)) [
   | inl l ↦ ap (λ (k : ℕ). take k xs) (let e : min n (length xs) ≡ n = omega arith in e)
-  | inr l ↦ ap (λ (k : ℕ). take k xs) (let e : min n (length xs) ≡ length xs = omega arith in e) ∙ take-length xs ∙ sym (take_within n xs l)
+  | inr l ↦ ap (λ (k : ℕ). take k xs) (let e : min n (length xs) ≡ length xs = omega arith in e) ∙ take-length xs ∙ sym (take_all n xs l)
 ]
 
 pub returns-clause-items : goal.returns-clause-items

@@ -1,7 +1,7 @@
 use Rattle.std.proofs.Common.{rules, refl, ap, sym, ◌∙◌, List, ℕ, [], length}
 use Rattle.std.proofs.lemmas.List.{append-nil}
 use Rattle.std.specs.Io.KnownBytes.{append_known}
-use Rattle.dcm_devices.proofs.Writes.Puts.{append_known_twice}
+use Rattle.dcm_lemmas.proofs.Options.{known_twice}
 use Rattle.dcm_devices.proofs.Writes.PartsOut.{part_failed, parts_put}
 use Rattle.dcm_value.specs.Progress as progress
 use Rattle.dcm_sinks.specs.DumpSink as spec
@@ -51,7 +51,7 @@ returns-clause-wrote g c =
       bytes = c.in_ok-open.ensures.wrote.bytes
           ∙ ap (λ q. append_known (g.W.DeviceOut.contents c.put_early_start.new.out) (progress.opening_writes q)) c.new-self.ensures
           ∙ ap (λ known. append_known known (progress.opening_writes p)) (rw level at c.in_ok-put_early_start.ensures.bytes)
-          ∙ append_known_twice (g.W.DeviceOut.contents c.args.out.now) start (progress.opening_writes p)
+          ∙ known_twice (g.W.DeviceOut.contents c.args.out.now) start (progress.opening_writes p)
           ∙ ap (append_known (g.W.DeviceOut.contents c.args.out.now)) (sym (begins_in_parts c.args.self.now.mode (spec.owner_start (length c.args.self.now.lengths) c.args.owner) (progress.opening p)));
       failed = search rules;
     }

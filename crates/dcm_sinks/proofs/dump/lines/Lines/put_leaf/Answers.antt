@@ -1,5 +1,6 @@
-use Rattle.std.proofs.Common.{rules, refl, ap, subst, ◌≡◌, ◌≤◌, ◌∙◌, List, ℕ, ◌++◌, [], length, OnOk, Option, Result, Ok, Err}
+use Rattle.std.proofs.Common.{rules, refl, ap, subst, ◌≡◌, ◌≤◌, ◌∙◌, List, ℕ, ◌++◌, [], length, Option}
 use Rattle.std.specs.Prelude.{IfSome}
+use Rattle.dcm_lemmas.proofs.Options.{always}
 use Rattle.dcm_base.specs.Dump.Dump.{line_start}
 use Rattle.dcm_base.specs.Tables.Representation.{letters}
 use Rattle.dcm_devices.proofs.Writes.PartsOut.{parts_put}
@@ -10,11 +11,6 @@ use Rattle.dcm_sinks.specs.Lines.{state, shows}
 use Rattle.dcm_stream.specs.Tokens.{whole_atoms}
 use Rattle.dcm_sinks.proofs.Dumps.WholeLines.{line_state, line_bytes}
 use Rattle.dcm_sinks.proofs.dump.lines.Lines.put_leaf.Goals as goal
-
--- what holds in any case
-always : {T E : Type 0} (r : Result T E) (P : Type 0) → P → OnOk r P
-always (Ok x) P h = h
-always (Err x) P h = tt
 
 pub returns-clause-state : goal.returns-clause-state
 returns-clause-state g c =

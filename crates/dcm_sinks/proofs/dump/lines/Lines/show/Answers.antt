@@ -1,10 +1,11 @@
 use Rattle.std.proofs.Common.{rules, ◌≡◌, ap, sym, ◌∙◌, false, map, subst}
 use Rattle.std.specs.Prelude.{fold}
 use Rattle.std.specs.Io.KnownBytes.{append_known}
+use Rattle.dcm_lemmas.proofs.Options.{known_nothing}
 use Rattle.dcm_base.specs.Steps.Atoms.{value_byte}
 use Rattle.dcm_base.specs.Steps.Steps.{outputs}
 use Rattle.dcm_devices.specs.Device.{AppendsFront}
-use Rattle.dcm_devices.proofs.Writes.Puts.{puts_err, append_known_none}
+use Rattle.dcm_devices.proofs.Writes.Puts.{puts_err}
 use Rattle.dcm_value.specs.Progress as progress
 use Rattle.dcm_value.specs.ValueText.{progress as text_progress}
 use Rattle.dcm_value.proofs.Displays.Emits.{settled_of}
@@ -30,7 +31,7 @@ returns-in_default-clause-wrote g c =
     let none = is_none s.owner c.take.result (text_progress s.text) c.in_default.is c.take.ensures.value in
     let now : state s ≡ between s.dictionary s.mode s.lengths = same_state s.dictionary s.mode s.lengths _ _ _ _ none c.requires in
     record {
-      bytes = sym (append_known_none (g.W.DeviceOut.contents c.args.out.now))
+      bytes = sym (known_nothing (g.W.DeviceOut.contents c.args.out.now))
           ∙ ap (append_known (g.W.DeviceOut.contents c.args.out.now)) (sym (ap (λ t. outputs spec.dump_step spec.dump_writes t (map value_byte c.args.bytes.now)) now ∙ silent_between s.dictionary s.mode s.lengths c.args.bytes.now));
       failed = search rules;
     }

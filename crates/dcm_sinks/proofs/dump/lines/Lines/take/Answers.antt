@@ -1,6 +1,6 @@
 use Rattle.std.proofs.Common.{rules, sym, ap, ◌∙◌}
 use Rattle.std.specs.Io.KnownBytes.{append_known}
-use Rattle.dcm_devices.proofs.Writes.Puts.{append_known_none}
+use Rattle.dcm_lemmas.proofs.Options.{known_nothing}
 use Rattle.dcm_stream.specs.Tokens.{atoms_of}
 use Rattle.dcm_sinks.specs.Lines.{state}
 use Rattle.dcm_sinks.proofs.Dumps.ValueBytes.{lost_stays, lost_silent}
@@ -12,7 +12,7 @@ returns-then-self-clause-state g c = sym (lost_stays (state c.args.self.now) (at
 pub returns-then-self-clause-wrote : goal.returns-then-self-clause-wrote
 returns-then-self-clause-wrote g c =
     record {
-      bytes = sym (append_known_none (g.W.DeviceOut.contents c.args.out.now))
+      bytes = sym (known_nothing (g.W.DeviceOut.contents c.args.out.now))
           ∙ ap (append_known (g.W.DeviceOut.contents c.args.out.now)) (sym (lost_silent (state c.args.self.now) (atoms_of c.args.token) c.if-self.true));
       failed = search rules;
     }

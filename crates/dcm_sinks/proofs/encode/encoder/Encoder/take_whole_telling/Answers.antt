@@ -1,7 +1,7 @@
 use Rattle.std.proofs.Common.{rules, ◌≡◌, ◌∙◌, ap, sym, ℕ, subst}
 use Rattle.std.specs.Prelude.{OnOk}
 use Rattle.std.specs.Io.KnownBytes.{append_known}
-use Rattle.dcm_devices.proofs.Writes.Puts.{append_known_none}
+use Rattle.dcm_lemmas.proofs.Options.{known_nothing}
 use Rattle.dcm_stream.proofs.Runs.Skipped.{none_open}
 use Rattle.dcm_stream.specs.Skip.{closed}
 use Rattle.dcm_sinks.specs.EncodeSink.{EncodeState}
@@ -16,7 +16,7 @@ returns-then-is_open g c =
     let drops = dropped_whole s a.head a.syntax a.value.now (unless_open _ s.dropped a.head.tag.element c.is_open.ensures c.then-is_open.either) in
     record {
       state = ap (λ (d : ℕ). let t : EncodeState = record s { dropped = d } in t) (c.close.ensures ∙ ap closed c.open.ensures) ∙ drops.0;
-      bytes = sym (append_known_none (g.W.DeviceOut.contents a.out.now)) ∙ ap (append_known (g.W.DeviceOut.contents a.out.now)) drops.1;
+      bytes = sym (known_nothing (g.W.DeviceOut.contents a.out.now)) ∙ ap (append_known (g.W.DeviceOut.contents a.out.now)) drops.1;
       failed = search rules;
     }
 

@@ -1,10 +1,10 @@
 use Rattle.std.proofs.Common.{rules, ap, sym, subst, ◌≡◌, ◌∙◌, List, ℕ, ◌++◌, Option}
 use Rattle.std.specs.Prelude.{MatchOption}
+use Rattle.dcm_lemmas.proofs.Options.{always}
 use Rattle.dcm_devices.specs.Device.{Puts}
 use Rattle.dcm_value.specs.DecodedDisplay.{decoded_text_of, decoded_count}
 use Rattle.dcm_sinks.specs.TextLines.{state}
 use Rattle.dcm_sinks.proofs.DecodedDumps.TextBytes.{out_of_text}
-use Rattle.dcm_sinks.proofs.DecodedDumps.TextLines.{always}
 use Rattle.dcm_sinks.proofs.DecodedDumps.TextRuns.{whole_leaves, whole_line}
 use Rattle.dcm_sinks.proofs.dump.lines.texts.TextLines.put_characters.Goals as goal
 

@@ -1,4 +1,5 @@
 use Rattle.std.proofs.Common.{rules, refl, ap, sym, ◌≡◌, ◌∙◌, List, ℕ, ◌++◌, length, append_assoc, true}
+use Rattle.dcm_lemmas.proofs.Options.{always}
 use Rattle.dcm_base.specs.declared.syntax.Syntax.{Syntax}
 use Rattle.dcm_base.specs.declared.mode.Mode.{Mode}
 use Rattle.dcm_base.specs.declared.mode.Mode.TheVariants.{Full}
@@ -12,7 +13,6 @@ use Rattle.dcm_value.specs.DecodedDisplay.{decoded_text_of, decoded_count}
 use Rattle.dcm_sinks.specs.Layout.{line_rest}
 use Rattle.dcm_sinks.specs.TextDump.{TextState, opens_text}
 use Rattle.dcm_sinks.specs.TextLines.{state, shows}
-use Rattle.dcm_sinks.proofs.DecodedDumps.TextLines.{always}
 use Rattle.dcm_sinks.proofs.DecodedDumps.TextRuns.{whole_leaves, whole_shown}
 use Rattle.dcm_sinks.proofs.dump.lines.texts.TextLines.put_in_full.Goals as goal
 

@@ -1,5 +1,6 @@
 use Rattle.std.proofs.Common.{rules, ap, sym, subst, ◌≡◌, ◌∙◌, List, ℕ, ◌++◌, length, Option}
 use Rattle.std.specs.Prelude.{MatchOption}
+use Rattle.dcm_lemmas.proofs.Options.{always}
 use Rattle.dcm_base.specs.Dump.Dump.{line_start}
 use Rattle.dcm_base.specs.Tables.Representation.{letters}
 use Rattle.dcm_base.specs.declared.mode.Mode.{Mode}
@@ -8,7 +9,6 @@ use Rattle.dcm_text.specs.declared.sets.Sets.{Sets}
 use Rattle.dcm_value.specs.DecodedDisplay.{decoded_text_of, decoded_count}
 use Rattle.dcm_sinks.specs.TextLines.{state}
 use Rattle.dcm_sinks.proofs.DecodedDumps.TextBytes.{out_of_text}
-use Rattle.dcm_sinks.proofs.DecodedDumps.TextLines.{always}
 use Rattle.dcm_sinks.proofs.DecodedDumps.TextRuns.{whole_leaves, whole_line, leaf_text}
 use Rattle.dcm_sinks.proofs.dump.lines.texts.TextLines.take_short_text.Goals as goal
 

@@ -1,0 +1,5 @@
+pub mod Truth
+pub mod Choice
+pub mod Options
+pub mod Numbers
+pub mod Lists

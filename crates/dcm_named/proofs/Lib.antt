@@ -1,0 +1,11 @@
+pub mod Ways
+pub mod Putting
+pub mod Filtering
+pub mod Walks
+pub mod NamedSets
+pub mod Plain
+pub mod Characters
+pub mod NamedReads
+pub mod Found
+pub mod MetaAtoms
+pub mod MetaLines

@@ -1,0 +1,7 @@
+pub mod Named
+pub mod Filter
+pub mod NamedSink
+pub mod Naming
+pub mod Laws
+pub mod Found
+pub mod Meta
