@@ -1,5 +1,5 @@
 //! Laws of the definitions. Each function takes nothing and makes no call: its contract is the law.
-ghost use Rattle.dcm_named.specs.Found.{AllAreFound, NoOtherLine, AsInTheDump, AllOfTheDump};
+ghost use Rattle.dcm_named.specs.Found.{AllAreFound, NoOtherLine, AsInTheDump, AllOfTheDump, AllOfTheFile};
 ghost use Rattle.dcm_named.specs.Laws.{NamedShown, NamedWhole, NamedSoFar};
 
 /// Over atoms that show a data set the filter writes the lines of what is named in it, whole or as far as it was read.
@@ -14,20 +14,20 @@ pub fn named_reads()
     ensures so_far { NamedSoFar }
 {}
 
-/// Each element of a tag that is named is in a line, at whatever depth it stands: its lines, at some level, are a part
-/// of what is written.
+/// Each element of a tag that is named is in a line, at whatever depth the element stands. Its lines, at some level, are
+/// a part of what is written. This holds of data sets that are cut too.
 pub fn all_are_found()
     ensures { AllAreFound }
 {}
 
-/// What is written is, in the order of the data set, of each element its own lines, after the way to it. It has such
-/// lines where it is named and lies in nothing that is named.
+/// What is written is, in the order of the data set, of each element its own lines, after the way to it. An element has
+/// such lines where its tag is named and no sequence around it is named.
 pub fn no_other_line()
     ensures { NoOtherLine }
 {}
 
-/// The lines of an element are those of the dump of the whole data set, where they stand two levels deeper for each
-/// sequence around it.
+/// The lines of an element are lines of the dump of the whole data set, where they stand two levels deeper for each
+/// sequence around the element.
 pub fn as_in_the_dump()
     ensures { AsInTheDump }
 {}
@@ -35,4 +35,11 @@ pub fn as_in_the_dump()
 /// Where all outermost elements are named, and ways are not asked for, the dump is written.
 pub fn all_of_the_dump()
     ensures { AllOfTheDump }
+{}
+
+/// Where all elements of a file are named, the dump of the file is written without its header. The header is the lines
+/// that begin with # and the empty ones. Conditions: the outermost elements are named, those of the meta group too, and
+/// ways are not asked for.
+pub fn all_of_the_file()
+    ensures { AllOfTheFile }
 {}
