@@ -1,6 +1,6 @@
 #!/usr/bin/env python3
 """Makes tables.rt and gb_tables.rt of crates/dcm_text/src, the characters of the sets of PS3.3 C.12.1.1.2, from the codecs of Python (3.11),
-and digests.rt of crates/dcm_text_runs/src, by which a test knows the characters of each set.
+and digests.rt of crates/library_tests/src/texts, by which a test knows the characters of each set.
 
     scripts/make_charsets.py              writes the three
     scripts/make_charsets.py --check      ends with 1 where a file is another one
@@ -17,7 +17,7 @@ import sys
 from pathlib import Path
 
 SOURCES = Path(__file__).parent.parent / "crates/dcm_text/src"
-DIGESTS = Path(__file__).parent.parent / "crates/dcm_text_runs/src/digests.rt"
+DIGESTS = Path(__file__).parent.parent / "crates/library_tests/src/texts/digests.rt"
 SINGLE = {"13": "shift_jis", "100": "latin_1", "101": "iso8859_2", "109": "iso8859_3", "110": "iso8859_4", "126": "iso8859_7",
           "127": "iso8859_6", "138": "iso8859_8", "144": "iso8859_5", "148": "iso8859_9", "166": "tis_620", "203": "iso8859_15"}
 DOUBLE = {"87": ("euc_jp", b""), "149": ("euc_kr", b""), "58": ("gb2312", b""), "159": ("euc_jp", b"\x8f")}

@@ -1,9 +1,9 @@
 #!/usr/bin/env python3
 """Tries the claims of docs/users/PROFILE.md, in its order, on a built dcmtools.
 
-What PROFILE says of words, paths, streams and files is tried by try_program.py, too, and of trees by try_trees.py; of devices that fail by the tests of
-dcm_failing_runs; of pieces and of 64 and 65 open sequences by those of dcm_runs; of R15 by those of dcm_parts, and of want of memory
-by try_memory.py. Of two runs into one OUTPUT, of overlay file systems and of DCMTK's tools nothing is tried here.
+What PROFILE says of words, paths, streams and files is tried by try_program.py, too, and of trees by try_trees.py; of devices that fail,
+of pieces and of 64 and 65 open sequences by job_tests; of R15 by library_tests, and of want of memory by try_memory.py. Of two runs
+into one OUTPUT, of overlay file systems and of DCMTK's tools nothing is tried here.
 
     scripts/try_profile.py [BINARY]
 
