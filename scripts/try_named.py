@@ -16,14 +16,15 @@ TOP = Path(__file__).resolve().parent.parent
 BINARY = TOP / "crates/dcmtools/out/dcmtools"
 FILES = Path("/usr/lib/python3/dist-packages/pydicom/data/test_files")
 
-# The first line of an element that stands outermost in a dump: the way to it, and its tag.
-FIRST = re.compile(rb"((?:\([0-9a-f]{4},[0-9a-f]{4}\)\.)*)\(([0-9a-f]{4},[0-9a-f]{4})\) [A-Za-z]{2} ")
+# The first line of an element that stands outermost in a dump: the way to it, and its tag. DCMTK shows a representation that it does
+# not know as two question marks.
+FIRST = re.compile(rb"((?:\([0-9a-f]{4},[0-9a-f]{4}\)\.)*)\(([0-9a-f]{4},[0-9a-f]{4})\) (?:[A-Za-z]{2}|\?\?) ")
 
 # A tag in a way.
 IN_WAY = re.compile(rb"[0-9a-f]{4},[0-9a-f]{4}")
 
-# The tag of an element that a dump shows as UN.
-UNKNOWN = re.compile(rb"^ *\(([0-9a-f]{4},[0-9a-f]{4})\) UN ", re.MULTILINE)
+# The tag of an element whose representation DCMTK does not know.
+UNKNOWN = re.compile(rb"^ *\(([0-9a-f]{4},[0-9a-f]{4})\) (?:UN|\?\?) ", re.MULTILINE)
 
 # The tag in a line of a dump at any level.
 TAG = re.compile(rb"^ *\(([0-9a-f]{4},[0-9a-f]{4})\)", re.MULTILINE)
