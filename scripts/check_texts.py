@@ -4,13 +4,13 @@
     scripts/check_texts.py            all checks below; the words of each page, and the longest sentences
     scripts/check_texts.py --items    the public items of the crates that have no comment
 
-- Words: a page's words are those with a letter or a digit, and all pages together have at most MOST_WORDS.
+- Words: a page's words are those with a letter or a digit, and each page has at most those of MOST_WORDS.
 - Sentences: at most MOST_LONG of more than LONG words on all pages, and none of more than LONGEST. A code span is a word.
 - Links and anchors, paths of files, names of pages in the crates' comments, and numbers of decisions lead somewhere.
 - Numbers that are in the tree are the same on the pages: elements, limits, edits, faults, crates (FACTS).
 - Each line on standard error has a row in PROFILE's table of causes; what a newcomer has to be told is said in each place (TOLD).
-- Each tool's options are the same in its text (crates/dcm_words/src/texts.rt), in man/dcmtools.1 and in both completions; so are the
-  version, the edition of the dictionary, and the exit statuses.
+- The version, the edition of the dictionary and the exit statuses are those of the program's texts (crates/dcm_words/src/texts.rt).
+  The options of these texts are in the pages and completions by scripts/make_options.py and scripts/make_completions.py.
 
 Exits with 0 if nothing is wrong.
 """
@@ -22,14 +22,27 @@ from pathlib import Path
 ROOT = Path(__file__).resolve().parent.parent
 TEXTS = {"dcmdump": "DUMP", "dcmconv": "CONVERT", "dump2dcm": "BUILD", "dcmodify": "MODIFY", "dcmdeid": "DEIDENTIFY",
          "dcm2csv": "TABLE"}
-OF_TREES = ("dcmconv", "dcmodify", "dcmdeid")
-# Those that write an OUTPUT.
-WITH_OUTPUT = ("dcmconv", "dump2dcm", "dcmodify", "dcmdeid")
 MANUAL = "man/dcmtools.1"
 # scripts/make_laws.py makes this page of the comments of laws.
 GENERATED = "docs/auditors/LAWS.md"
 
-MOST_WORDS = 28_500
+# The most words of each page.
+MOST_WORDS = {
+    "README.md": 720,
+    "CHANGELOG.md": 510,
+    "CONTRIBUTING.md": 1_230,
+    "docs/PERF.md": 1_070,
+    "docs/auditors/DEFINITIONS.md": 1_750,
+    "docs/auditors/PROVED.md": 1_540,
+    "docs/engineers/ARCHITECTURE.md": 1_850,
+    "docs/engineers/DECISIONS.md": 2_470,
+    "docs/engineers/GATE.md": 310,
+    "docs/engineers/GLOSSARY.md": 610,
+    "docs/users/BENCHMARKS.md": 510,
+    "docs/users/COOKBOOK.md": 1_850,
+    "docs/users/PROFILE.md": 5_650,
+    MANUAL: 2_000,
+}
 LONG, LONGEST, MOST_LONG = 30, 45, 25
 
 
@@ -112,9 +125,9 @@ def wrong_sizes() -> list:
     counts = {page: len(words_in(text_of_page(page))) for page in pages()}
     for page, count in counts.items():
         print(f"{count:7,} {page}")
-    total = sum(counts.values())
-    print(f"{total:7,} words")
-    return [f"{total:,} words, more than {MOST_WORDS:,}"] if total > MOST_WORDS else []
+    print(f"{sum(counts.values()):7,} words")
+    wrong = [f"MOST_WORDS and the pages differ in {sorted(counts.keys() ^ MOST_WORDS.keys())}"] if counts.keys() != MOST_WORDS.keys() else []
+    return wrong + [f"{page} has {count:,} words, more than {MOST_WORDS[page]:,}" for page, count in counts.items() if count > MOST_WORDS.get(page, 0)]
 
 
 # ---- links, paths and decisions
@@ -292,61 +305,6 @@ def text_of(name: str) -> str:
     return re.search(rf'const {name}: &str = "(?:\\\n)?(.*?)";', read("crates/dcm_words/src/texts.rt"), re.S)[1]
 
 
-def shown_options(tool: str) -> set:
-    """The options in the text of a tool: the first word of each indented line."""
-    return set(re.findall(r"^  ([-+]\S+)", text_of(TEXTS[tool]), re.M))
-
-
-def manual_options(tool: str) -> set:
-    """The options that the manual page describes of a tool, with those of the dictionaries."""
-    page = read(MANUAL)
-    title = {"dcmodify": "Edits of dcmodify", "dcm2csv": "Words of dcm2csv"}.get(tool, f"Options of {tool}")
-    sections = [page.split(f".Ss {title}")[1].split(".Ss")[0]]
-    if tool not in ("dump2dcm", "dcmdeid", "dcm2csv"):
-        sections.append(page.split(".Ss The dictionaries")[1].split(".Ss")[0])
-    if tool in OF_TREES:
-        sections.append(page.split(".Ss Trees of files")[1].split(".Ss")[0])
-    if tool in WITH_OUTPUT:
-        sections.append(page.split(".Ss An output that is there")[1].split(".Ss")[0])
-    items = re.findall(r"^\.It (Fl|Cm) (\S+)", "\n".join(sections), re.M)
-    return {("-" if kind == "Fl" else "") + word for kind, word in items if word != "@"}
-
-
-def profile_options(tool: str) -> set:
-    """The options and edits in the first tables of a tool's section of PROFILE."""
-    titles = (tool, "Trees of files") if tool in OF_TREES else (tool,)
-    sections = [re.split(r"\n##? ", read("docs/users/PROFILE.md").split(f"\n# {title}\n")[1])[0] for title in titles]
-    cells = re.findall(r"^\| (`[-+][^|]*) \|", "\n".join(sections), re.M)
-    found = {span.split()[0] for cell in cells for span in re.findall(r"`([^`]*)`", cell)}
-    found |= {"+ow"} if tool in WITH_OUTPUT else set()
-    return found | ({"-dict", "+dict"} if tool == "dcmodify" else set())
-
-
-def bash_options(tool: str) -> set:
-    words = re.search(rf"^\s+{tool}\) switches='([^']*)'", read("completions/dcmtools.bash"), re.M)[1].split()
-    return {word for word in words if not word.startswith("--")}
-
-
-def zsh_options(tool: str) -> set:
-    page = read("completions/_dcmtools")
-    case = re.search(rf"^    {tool}\)\n(.*?);;\n    (?=\S)", page, re.M | re.S)[1]
-    found = set(re.findall(r"^\s+'([-+][^-:][^:]*):", case, re.M))
-    found |= {"-dict", "+dict"} if "$dictionaries" in case else set()
-    found |= {"+ow"} if "$overwrites" in case else set()
-    return found | (set(re.findall(r"^\s+'(\+\w+):", re.search(r"^  trees=\(\n(.*?)^  \)", page, re.M | re.S)[1], re.M)) if "$trees" in case else set())
-
-
-def wrong_options() -> list:
-    wrong = []
-    places = (("the manual page", manual_options), ("PROFILE", profile_options), ("bash", bash_options), ("zsh", zsh_options))
-    for tool in TEXTS:
-        shown = shown_options(tool)
-        for where, options in places:
-            if options(tool) != shown:
-                wrong.append(f"{tool}: {where} and the text differ in {sorted(options(tool) ^ shown)}")
-    return wrong
-
-
 def wrong_names() -> list:
     """The version and the edition, where they are not everywhere the same."""
     version, edition = re.search(r"dcmtools (\S+), with the data dictionary of DICOM PS3.6 (\S+?)\\n", text_of("VERSION")).groups()
@@ -392,7 +350,7 @@ def main() -> int:
         found = items_without_comment()
         print("\n".join(found + [f"{len(found)} public items without a comment"]))
         return 1 if found else 0
-    checks = (wrong_sentences, wrong_sizes, wrong_links, wrong_citations, wrong_facts, wrong_crates, wrong_faults, wrong_causes, wrong_told, wrong_options, wrong_names, wrong_statuses)
+    checks = (wrong_sentences, wrong_sizes, wrong_links, wrong_citations, wrong_facts, wrong_crates, wrong_faults, wrong_causes, wrong_told, wrong_names, wrong_statuses)
     wrong = [fault for check in checks for fault in check()]
     print("\n".join(wrong + [f"{len(wrong)} wrong"]))
     return 1 if wrong else 0

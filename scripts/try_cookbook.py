@@ -243,8 +243,8 @@ def holds(run, expected):
 
 
 def one_element(run):
-    lines = [line for line in run.printed.split(b"\n") if line]
-    return is_done(run) + holds(run, {}) + ([] if len(lines) == 2 and all(b"[AB^CD]" in line for line in lines) else [f"printed {run.printed!r}"])
+    values = re.findall(rb"^\([0-9a-f,]+\) .. \[(.*?)\]", run.printed, re.MULTILINE)
+    return is_done(run) + holds(run, {}) + ([] if values == [b"AB^CD", b"7"] else [f"printed {run.printed!r}"])
 
 
 TABLE_ROWS = {
@@ -538,7 +538,7 @@ class Block(NamedTuple):
 
 
 BLOCKS = [
-    Block("    dcmtools dcmdump +dict scan.dcm |", one_element),
+    Block("dcmtools dcmdump +P PatientName", one_element),
     Block("    columns=(-k", table),
     Block("    find in/ -type f -print0 | xargs -0 -r dcmtools dcm2csv +nh -k DataSetTrailingPadding", cut_files_named),
     Block("sqlite3 table.db", table_in_sqlite, with_table, needs=("sqlite3",)),
