@@ -8,7 +8,8 @@
 - Sentences: at most MOST_LONG of more than LONG words on all pages, and none of more than LONGEST. A code span is a word.
 - Links and anchors, paths of files, names of pages in the crates' comments, and numbers of decisions lead somewhere.
 - Numbers that are in the tree are the same on the pages: elements, limits, edits, faults, crates (FACTS).
-- Each line on standard error has a row in PROFILE's table of causes; what a newcomer has to be told is said in each place (TOLD).
+- Each line on standard error has its cause in PROFILE's tables of faults, or in the manual's DIAGNOSTICS; what a newcomer has to be
+  told is said in each place (TOLD).
 - The version, the edition of the dictionary and the exit statuses are those of the program's texts (crates/dcm_words/src/texts.rt).
   The options of these texts are in the pages and completions by scripts/make_options.py and scripts/make_completions.py.
 
@@ -40,8 +41,8 @@ MOST_WORDS = {
     "docs/engineers/GLOSSARY.md": 610,
     "docs/users/BENCHMARKS.md": 510,
     "docs/users/COOKBOOK.md": 1_850,
-    "docs/users/PROFILE.md": 5_650,
-    MANUAL: 2_000,
+    "docs/users/PROFILE.md": 5_660,
+    MANUAL: 2_950,
 }
 LONG, LONGEST, MOST_LONG = 30, 45, 25
 
@@ -122,7 +123,7 @@ def wrong_sentences() -> list:
 
 
 def wrong_sizes() -> list:
-    counts = {page: len(words_in(text_of_page(page))) for page in pages()}
+    counts = {page: len(words_in(re.sub(r"<!--.*?-->", "", text_of_page(page)))) for page in pages()}
     for page, count in counts.items():
         print(f"{count:7,} {page}")
     print(f"{sum(counts.values()):7,} words")
@@ -197,7 +198,7 @@ FACTS = [
     (r"the (\d+)th open sequence", "crates/dcm_base/src/level.rt", "MOST_LISTS", 1),
     (r"passes the ([\d,]+)th byte of the group|meta group has at most ([\d,]+) bytes", "crates/dcm_head/src/group.rt", "META_LIMIT", 0),
     (r"80 to ([\d,]+)", "crates/dcm_base/src/limits.rt", "LINE_LIMIT", 0),
-    (r"may have (?:N|so many) bytes, (\d+) to", "crates/dcm_words/src/words.rt", "LEAST_LIMIT", 0),
+    (r"has at most N bytes, (\d+) to", "crates/dcm_words/src/words.rt", "LEAST_LIMIT", 0),
     (r"\(default ([\d,]+)\)|The default is ([\d,]+)\.", "crates/dcm_words/src/words.rt", "USUAL_LIMIT", 0),
     (r"or of an edit ([\d,]+)|A value has at most ([\d,]+) bytes|or has more than ([\d,]+) bytes", "crates/dcm_base/src/limits.rt", "VALUE_LIMIT", 0),
     (r"(\d+) to 4,?096", "crates/dcm_cli/src/key.rt", "LEAST_OF_KEY", 0),
@@ -239,44 +240,40 @@ def wrong_crates() -> list:
     return wrong
 
 
-def wrong_faults() -> list:
-    """The faults and refusals whose number and words PROFILE lacks."""
-    book, profile = read("crates/dcm_base/specs/Tables/Fault.antt"), read("docs/users/PROFILE.md")
-    wrong = []
-    for kind in ("fault", "line_fault", "edit_refusal", "word_fault"):
-        numbers = dict(re.findall(rf'^{kind}_number (\w+) = codes "(\w+)"', book, re.M))
-        texts = dict(re.findall(rf'^{kind}_text (\w+) = codes "([^"]+)"', book, re.M))
-        for name, number in numbers.items():
-            if not re.search(rf"\| {number} \| {texts[name]} \||`{number}[^`]*: {texts[name]}`", profile):
-                wrong.append(f"PROFILE lacks {number}: {texts[name]}")
-    return wrong
-
-
-def lines_on_standard_error() -> list:
-    """The beginnings of all lines: numbers of faults and refusals, and the words of the others."""
-    book = read("crates/dcm_base/specs/Tables/Fault.antt") + read("crates/dcm_table_words/specs/Usages.antt")
-    lines = read("crates/dcm_cli/specs/ErrorLines.antt")
-    numbers = re.findall(r'^\w+_number \w+ = codes "([RBUV]\d+)"', book, re.M)
-    whole = re.findall(r'error_line \(codes "([^"]+)"\)', lines)
-    return numbers + [text.split(":")[0] for text in whole] + ["reading failed", "edit 1 found no place"]
+def lines_on_standard_error() -> dict:
+    """The words of each line by its number, and the beginnings of the lines without one, each by itself."""
+    book, usages = read("crates/dcm_base/specs/Tables/Fault.antt"), read("crates/dcm_table_words/specs/Usages.antt")
+    lines = {"reading failed": "reading failed", "edit 1 found no place": "edit 1 found no place", "3 dates are emptied": "3 dates are emptied"}
+    for text, kinds in ((book, ("fault", "line_fault", "edit_refusal", "word_fault")), (usages, ("usage",))):
+        for kind in kinds:
+            words = dict(re.findall(rf'^{kind}_text ([\w.]+) = codes "([^"]+)"', text, re.M))
+            lines |= {number: words[name] for name, number in re.findall(rf'^{kind}_number ([\w.]+) = codes "(\w+)"', text, re.M)}
+    for whole in re.findall(r'error_line \(codes "([^"]+)"\)', read("crates/dcm_cli/specs/ErrorLines.antt")):
+        number, _, rest = whole.partition(": ")
+        lines |= {number: rest} if re.fullmatch(r"V\d+", number) else {number: number}
+    return lines
 
 
 def wrong_causes() -> list:
-    """The lines that have no row in PROFILE's table of causes."""
-    section = read("docs/users/PROFILE.md").split("\n## What to do at a line\n")[1]
-    named = set()
-    for cell in re.findall(r"^\| ([^|]+) \|", section, re.M):
-        named |= set(re.findall(r"\b[RBUV]\d+\b|`([^`]+)`", cell)) | set(re.findall(r"\b[RBUV]\d+\b", cell))
-    return [f"PROFILE has no cause of {line}" for line in lines_on_standard_error() if line not in named]
+    """The lines that have neither a row in PROFILE's tables of faults nor an item in the manual's DIAGNOSTICS."""
+    section = read("docs/users/PROFILE.md").split("\n# Faults\n")[1]
+    told = dict(re.findall(r"^\| ([RBU]\d+) \| ([^|]+) \|", section, re.M))
+    diagnostics = read(MANUAL).split(".Sh DIAGNOSTICS\n")[1].split(".Sh ")[0]
+    for item in re.findall(r"^\.It (.*)$", diagnostics, re.M):
+        if refusal := re.fullmatch(r"(V\d+): (.*)", item):
+            told[refusal[1]] = refusal[2]
+        else:
+            told |= {line: line for line in (item.partition(": ")[0].removesuffix(" after 4096 bytes"), *item.split(" , "))}
+    return [f"no page has the cause of {number}: {words}" for number, words in lines_on_standard_error().items() if told.get(number) != words]
 
 
 # What a newcomer has to be told, and where: a page, a title of the manual page, a text of the program, or a script.
 WRAPPERS = ("dcm2csv", "dcmconv", "dcmdeid", "dcmdump", "dcmodify", "dump2dcm")
 TOLD = [
-    ("that an OUTPUT that is there stays", r"\bstays\b", ("README.md", "An output that is there", "MODIFY")),
+    ("that an OUTPUT that is there stays", r"\bstays\b", ("README.md", "Existing output files", "MODIFY")),
     ("what edits do not see without +dict", r"names may be left", ("README.md", "Edits of dcmodify", "MODIFY")),
     ("where the causes of lines are", r"likeliest cause", ("DIAGNOSTICS",)),
-    ("where the causes of lines are", r"#what-to-do-at-a-line", ("README.md",)),
+    ("where the causes of lines are", r"PROFILE.md#faults\)", ("README.md",)),
     ("which names of files it takes", r"UTF-8|any\s+(?:#\s+)?bytes", tuple(f"scripts/{name}" for name in WRAPPERS)),
     ("how to go on after it was cut off", r"cuts a block off", ("docs/users/COOKBOOK.md",)),
     ("that a cut behind the last column is not named", r"cut after its last column", ("docs/users/COOKBOOK.md",)),
@@ -350,7 +347,7 @@ def main() -> int:
         found = items_without_comment()
         print("\n".join(found + [f"{len(found)} public items without a comment"]))
         return 1 if found else 0
-    checks = (wrong_sentences, wrong_sizes, wrong_links, wrong_citations, wrong_facts, wrong_crates, wrong_faults, wrong_causes, wrong_told, wrong_names, wrong_statuses)
+    checks = (wrong_sentences, wrong_sizes, wrong_links, wrong_citations, wrong_facts, wrong_crates, wrong_causes, wrong_told, wrong_names, wrong_statuses)
     wrong = [fault for check in checks for fault in check()]
     print("\n".join(wrong + [f"{len(wrong)} wrong"]))
     return 1 if wrong else 0

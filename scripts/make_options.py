@@ -28,9 +28,12 @@ CONSTANTS = {"dcmdump": "DUMP", "dcmconv": "CONVERT", "dump2dcm": "BUILD", "dcmo
 FOLDERS = "a folder"
 OF_FOLDERS = ("dcmconv", "dcmodify", "dcmdeid")
 
+# What stands for something else in a text: the manual page has it in small letters.
+STANDS_FOR = ("FILE", "FOLDER", "OUTPUT", "NAME", "STUDY", "SERIES", "INSTANCE", "KEY", "N", "I")
+
 # Where PROFILE says more of an option: the anchor of a heading.
 MORE = {
-    ("dcmdump", "+u8"): "dumps-by-characters",
+    ("dcmdump", "+u8"): "texts-as-characters",
     ("dcmdump", "+P"): "named-elements",
     ("dcmdump", "+dict"): "the-dictionaries",
     ("dcmdump", "+F"): "dumps-of-several-files",
@@ -39,8 +42,8 @@ MORE = {
     ("dump2dcm", "+ow"): "the-output",
     ("dcmodify", "+dict"): "the-dictionaries",
     ("dcmodify", "+ow"): "the-output",
-    ("dcmdeid", "+rm N"): "moved-dates",
-    ("dcmdeid", "+rm key"): "days-by-the-key",
+    ("dcmdeid", "+rm N"): "date-shift",
+    ("dcmdeid", "+rm key"): "date-shift-by-the-key",
     ("dcmdeid", "+pi"): "pseudonyms",
     ("dcmdeid", "+k"): "new-unique-identifiers",
     ("dcmdeid", "+ow"): "the-output",
@@ -131,8 +134,8 @@ def macros_of(option: Option) -> str:
 def sentence_of(text: str) -> str:
     """The text of an option as a sentence of the manual page."""
     text = text[0].upper() + text[1:] + "."
-    text = text.replace("\\", "\\e")
-    return re.sub(r"(?<!\S)-(?=\w)", r"\-", text)
+    text = re.sub(r"(?<!\S)-(?=\w)", r"\-", text.replace("\\", "\\e"))
+    return re.sub(rf"\b(?:{'|'.join(STANDS_FOR)})\b", lambda word: rf"\fI{word[0].lower()}\fP", text)
 
 
 def items_of(named: list) -> str:
