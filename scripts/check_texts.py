@@ -200,7 +200,7 @@ FACTS = [
     (r"80 to ([\d,]+)", "crates/dcm_base/src/limits.rt", "LINE_LIMIT", 0),
     (r"has at most N bytes, (\d+) to", "crates/dcm_words/src/words.rt", "LEAST_LIMIT", 0),
     (r"\(default ([\d,]+)\)|The default is ([\d,]+)\.", "crates/dcm_words/src/words.rt", "USUAL_LIMIT", 0),
-    (r"or of an edit ([\d,]+)|A value has at most ([\d,]+) bytes|or has more than ([\d,]+) bytes", "crates/dcm_base/src/limits.rt", "VALUE_LIMIT", 0),
+    (r"or of an edit ([\d,]+)|A value has at most ([\d,]+) bytes", "crates/dcm_base/src/limits.rt", "VALUE_LIMIT", 0),
     (r"(\d+) to 4,?096", "crates/dcm_cli/src/key.rt", "LEAST_OF_KEY", 0),
     (r"16 to ([\d,]+)", "crates/dcm_words/src/job.rt", "MOST_OF_KEY", 0),
     (r"1 to (\d+), in the order of the row|not 1 to (\d+) columns", "crates/dcm_table_words/src/plan.rt", "MOST_COLUMNS", 0),
