@@ -827,9 +827,9 @@ def readme_commands():
 
 def wrong_commands(binary):
     """The commands of README and of the manual page that do not end with status 0, on a file that has all the elements that they name."""
-    content = scan(b"AB^CD", b"7", PRIVATE + leaf(0x00181151, "IS", b"5"))
+    content = scan(b"AB^CD", b"7", PRIVATE + leaf(0x00181151, "IS", b"5") + uid(STUDY, b"7") + uid(SERIES, b"7"))
     images = leaf(0x00081140, "SQ", item(leaf(0x00081155, "UI", b"1.2\0")))
-    content = content.replace(MODALITY, MODALITY + images)
+    content = content.replace(MODALITY, uid(INSTANCE, b"7") + MODALITY + images)
     # an image, as a scanner makes them, has a value that is longer than a line of dump2dcm
     image = content + leaf(0x7FE00010, "OB", bytes(20_000))
     for command in readme_commands() + manual_commands():
