@@ -20,9 +20,11 @@ import sys
 from functools import lru_cache
 from pathlib import Path
 
+sys.dont_write_bytecode = True
+
+from make_options import CONSTANTS, text_of
+
 ROOT = Path(__file__).resolve().parent.parent
-TEXTS = {"dcmdump": "DUMP", "dcmconv": "CONVERT", "dump2dcm": "BUILD", "dcmodify": "MODIFY", "dcmdeid": "DEIDENTIFY",
-         "dcm2csv": "TABLE"}
 MANUAL = "man/dcmtools.1"
 # scripts/make_laws.py makes this page of the comments of laws.
 GENERATED = "docs/auditors/LAWS.md"
@@ -143,7 +145,7 @@ def anchors(page: str) -> set:
 
 def wrong_links() -> list:
     wrong = []
-    for page in pages():
+    for page in [*pages(), GENERATED]:
         if page == MANUAL:
             continue
         for target in re.findall(r"\]\(([^)\s]+)\)", read(page)):
@@ -248,6 +250,9 @@ def lines_on_standard_error() -> dict:
         for kind in kinds:
             words = dict(re.findall(rf'^{kind}_text ([\w.]+) = codes "([^"]+)"', text, re.M))
             lines |= {number: words[name] for name, number in re.findall(rf'^{kind}_number ([\w.]+) = codes "(\w+)"', text, re.M)}
+    folders = read("crates/dcm_trees/specs/Run.antt") + read("crates/dcm_trees/specs/Fate.antt") + read("crates/dcm_trees/specs/Instance.antt")
+    for line in re.findall(r'^(?:refusal_line refusals\.\w+ part = line \(|text_of \S+ = |unfit_text uids.Study = )codes "([^"]+)"', folders, re.M):
+        lines[line] = line
     for whole in re.findall(r'error_line \(codes "([^"]+)"\)', read("crates/dcm_cli/specs/ErrorLines.antt")):
         number, _, rest = whole.partition(": ")
         lines |= {number: rest} if re.fullmatch(r"V\d+", number) else {number: number}
@@ -281,7 +286,7 @@ TOLD = [
 
 
 def text_at(place: str) -> str:
-    if place.isupper() and place in TEXTS.values():
+    if place in CONSTANTS.values():
         return text_of(place)
     if place.startswith("scripts/"):
         return re.match(r"(?:#.*\n)*", read(place))[0]
@@ -295,11 +300,6 @@ def wrong_told() -> list:
 
 
 # ---- the texts of the program
-
-
-def text_of(name: str) -> str:
-    """A text of the program, by the name of its constant."""
-    return re.search(rf'const {name}: &str = "(?:\\\n)?(.*?)";', read("crates/dcm_words/src/texts.rt"), re.S)[1]
 
 
 def wrong_names() -> list:
