@@ -30,24 +30,32 @@ _dcmtools_words() {
     done < <(compgen -W "$1" -- "$2")
 }
 
-# The keywords of the dictionary's extract (crates/dcm_base/src/dictionary/extract.rt) that an edit may name: those of values, and those
-# of sequences.
+# The tools, the options of each, and the keywords of the extract that an edit may name: those of values, and those of sequences.
+# tables: written by scripts/make_completions.py
+_dcmtools_tools='dcmdump dcmconv dump2dcm dcmodify dcmdeid dcm2csv'
+_dcmtools_of_dcmdump='-L +L +u8 +P +p -p +fo -f -ti -te -tb -dict +dict +F'
+_dcmtools_of_dcmconv='+t= +ti +te +tb -e +fo -dict +dict +ow +r +c +part +nh +v'
+_dcmtools_of_dump2dcm='+l -e +ow'
+_dcmtools_of_dcmodify='-i -m -e -ma -ea -ep -dict +dict +ow +r +c +part +nh +v'
+_dcmtools_of_dcmdeid='+ru +rd +ri +rp +rl +rm +pi +bi +k +ow +r +c +part +nh +v +kn'
+_dcmtools_of_dcm2csv='-k +nh +by +u8'
 _dcmtools_values='
     SpecificCharacterSet ImageType InstanceCreationDate InstanceCreationTime SOPClassUID SOPInstanceUID StudyDate
     SeriesDate AcquisitionDate ContentDate AcquisitionDateTime StudyTime SeriesTime AcquisitionTime ContentTime
     AccessionNumber Modality Manufacturer InstitutionName ReferringPhysicianName CodeValue CodingSchemeDesignator
-    CodeMeaning StudyDescription SeriesDescription ManufacturerModelName ReferencedSOPClassUID
-    ReferencedSOPInstanceUID PatientName PatientID PatientBirthDate PatientSex PatientAge PatientSize PatientWeight
-    PatientComments BodyPartExamined SliceThickness KVP SoftwareVersions ProtocolName PatientPosition DiffusionBValue
-    StudyInstanceUID SeriesInstanceUID StudyID SeriesNumber AcquisitionNumber InstanceNumber ImagePositionPatient
-    ImageOrientationPatient FrameOfReferenceUID SliceLocation SamplesPerPixel PhotometricInterpretation
-    PlanarConfiguration NumberOfFrames FrameIncrementPointer Rows Columns PixelSpacing BitsAllocated BitsStored
-    HighBit PixelRepresentation WindowCenter WindowWidth RescaleIntercept RescaleSlope ValueType TextValue PixelData
+    CodeMeaning StudyDescription SeriesDescription ManufacturerModelName ReferencedSOPClassUID ReferencedSOPInstanceUID
+    PatientName PatientID PatientBirthDate PatientSex PatientAge PatientSize PatientWeight PatientComments
+    BodyPartExamined SliceThickness KVP SoftwareVersions ProtocolName PatientPosition DiffusionBValue StudyInstanceUID
+    SeriesInstanceUID StudyID SeriesNumber AcquisitionNumber InstanceNumber ImagePositionPatient ImageOrientationPatient
+    FrameOfReferenceUID SliceLocation SamplesPerPixel PhotometricInterpretation PlanarConfiguration NumberOfFrames
+    FrameIncrementPointer Rows Columns PixelSpacing BitsAllocated BitsStored HighBit PixelRepresentation WindowCenter
+    WindowWidth RescaleIntercept RescaleSlope ValueType TextValue PixelData
 '
 _dcmtools_sequences='
     ReferencedStudySequence ReferencedPerformedProcedureStepSequence ReferencedSeriesSequence ReferencedImageSequence
     ReferencedSOPSequence SourceImageSequence ConceptNameCodeSequence ContentSequence
 '
+# end of tables
 
 # The file of the keywords of the whole dictionary, one a line after `v ` (a value), `s ` (a sequence) or `c ` (for columns alone).
 _dcmtools_keywords=$(cd "$(dirname "${BASH_SOURCE[0]}")" && pwd)/dcmtools.keywords
@@ -99,8 +107,6 @@ _dcmtools_replaced() {
     _dcmtools_words "${words[*]}" "$1"
 }
 
-_dcmtools_tools='dcmdump dcmconv dump2dcm dcmodify dcmdeid dcm2csv'
-
 # The words that are answered with usage or the version, as the first word or as the only word after a tool's name.
 _dcmtools_answered='help version -h --help --version'
 
@@ -115,15 +121,9 @@ _dcmtools() {
         _dcmtools_words "$_dcmtools_tools" "$current"
         return
     fi
-    case ${COMP_WORDS[1]} in
-        dcmdump) switches='-L +L +u8 +P +p -p +fo -f -ti -te -tb -dict +dict +F' ;;
-        dcmconv) switches='+t= +ti +te +tb -e +fo -dict +dict +ow +r +c +part +nh +v' ;;
-        dump2dcm) switches='+l -e +ow' ;;
-        dcmodify) switches='-i -m -e -ma -ea -ep -dict +dict +ow +r +c +part +nh +v' ;;
-        dcmdeid) switches='+ru +rd +ri +rp +rl +rm +pi +bi +k +ow +r +c +part +nh +v +kn' ;;
-        dcm2csv) switches='-k +nh +by +u8' ;;
-        *) return ;;
-    esac
+    [[ " $_dcmtools_tools " == *" ${COMP_WORDS[1]} "* ]] || return
+    switches=_dcmtools_of_${COMP_WORDS[1]}
+    switches=${!switches}
     [[ ${COMP_WORDS[1]} != dcmodify ]] || _dcmtools_read_dictionary
     case ${COMP_WORDS[1]}${COMP_WORDS[COMP_CWORD - 1]} in
         dcmodify-i | dcmodify-m) _dcmtools_paths "$current" '='; return ;;

@@ -4,13 +4,14 @@
     scripts/check_texts.py            all checks below; the words of each page, and the longest sentences
     scripts/check_texts.py --items    the public items of the crates that have no comment
 
-- Words: a page's words are those with a letter or a digit, and all pages together have at most MOST_WORDS.
+- Words: a page's words are those with a letter or a digit, and each page has at most those of MOST_WORDS.
 - Sentences: at most MOST_LONG of more than LONG words on all pages, and none of more than LONGEST. A code span is a word.
 - Links and anchors, paths of files, names of pages in the crates' comments, and numbers of decisions lead somewhere.
 - Numbers that are in the tree are the same on the pages: elements, limits, edits, faults, crates (FACTS).
-- Each line on standard error has a row in PROFILE's table of causes; what a newcomer has to be told is said in each place (TOLD).
-- Each tool's options are the same in its text (crates/dcm_words/src/texts.rt), in man/dcmtools.1 and in both completions; so are the
-  version, the edition of the dictionary, and the exit statuses.
+- Each line on standard error has its cause in PROFILE's tables of faults, or in the manual's DIAGNOSTICS; what a newcomer has to be
+  told is said in each place (TOLD).
+- The version, the edition of the dictionary and the exit statuses are those of the program's texts (crates/dcm_words/src/texts.rt).
+  The options of these texts are in the pages and completions by scripts/make_options.py and scripts/make_completions.py.
 
 Exits with 0 if nothing is wrong.
 """
@@ -19,18 +20,33 @@ import sys
 from functools import lru_cache
 from pathlib import Path
 
+sys.dont_write_bytecode = True
+
+from make_options import CONSTANTS, text_of
+
 ROOT = Path(__file__).resolve().parent.parent
-TEXTS = {"dcmdump": "DUMP", "dcmconv": "CONVERT", "dump2dcm": "BUILD", "dcmodify": "MODIFY", "dcmdeid": "DEIDENTIFY",
-         "dcm2csv": "TABLE"}
-OF_TREES = ("dcmconv", "dcmodify", "dcmdeid")
-# Those that write an OUTPUT.
-WITH_OUTPUT = ("dcmconv", "dump2dcm", "dcmodify", "dcmdeid")
 MANUAL = "man/dcmtools.1"
 # scripts/make_laws.py makes this page of the comments of laws.
 GENERATED = "docs/auditors/LAWS.md"
 
-MOST_WORDS = 28_500
-LONG, LONGEST, MOST_LONG = 30, 45, 25
+# The most words of each page.
+MOST_WORDS = {
+    "README.md": 720,
+    "CHANGELOG.md": 510,
+    "CONTRIBUTING.md": 1_236,
+    "docs/PERF.md": 1_140,
+    "docs/auditors/DEFINITIONS.md": 1_745,
+    "docs/auditors/PROVED.md": 1_545,
+    "docs/engineers/ARCHITECTURE.md": 1_854,
+    "docs/engineers/DECISIONS.md": 2_470,
+    "docs/engineers/GATE.md": 309,
+    "docs/engineers/GLOSSARY.md": 610,
+    "docs/users/BENCHMARKS.md": 515,
+    "docs/users/COOKBOOK.md": 1_854,
+    "docs/users/PROFILE.md": 5_665,
+    MANUAL: 2_990,
+}
+LONG, LONGEST, MOST_LONG = 30, 45, 20
 
 
 @lru_cache
@@ -109,12 +125,12 @@ def wrong_sentences() -> list:
 
 
 def wrong_sizes() -> list:
-    counts = {page: len(words_in(text_of_page(page))) for page in pages()}
+    counts = {page: len(words_in(re.sub(r"<!--.*?-->", "", text_of_page(page)))) for page in pages()}
     for page, count in counts.items():
         print(f"{count:7,} {page}")
-    total = sum(counts.values())
-    print(f"{total:7,} words")
-    return [f"{total:,} words, more than {MOST_WORDS:,}"] if total > MOST_WORDS else []
+    print(f"{sum(counts.values()):7,} words")
+    wrong = [f"MOST_WORDS and the pages differ in {sorted(counts.keys() ^ MOST_WORDS.keys())}"] if counts.keys() != MOST_WORDS.keys() else []
+    return wrong + [f"{page} has {count:,} words, more than {MOST_WORDS[page]:,}" for page, count in counts.items() if count > MOST_WORDS.get(page, 0)]
 
 
 # ---- links, paths and decisions
@@ -129,7 +145,7 @@ def anchors(page: str) -> set:
 
 def wrong_links() -> list:
     wrong = []
-    for page in pages():
+    for page in [*pages(), GENERATED]:
         if page == MANUAL:
             continue
         for target in re.findall(r"\]\(([^)\s]+)\)", read(page)):
@@ -183,10 +199,10 @@ FACTS = [
     (r"more than (\d+) indexes", "crates/dcm_edits/src/form.rt", "MOST_INDEXES", 0),
     (r"the (\d+)th open sequence", "crates/dcm_base/src/level.rt", "MOST_LISTS", 1),
     (r"passes the ([\d,]+)th byte of the group|meta group has at most ([\d,]+) bytes", "crates/dcm_head/src/group.rt", "META_LIMIT", 0),
-    (r"80 to ([\d,]+)", "crates/dcm_base/src/limits.rt", "LINE_LIMIT", 0),
-    (r"may have (?:N|so many) bytes, (\d+) to", "crates/dcm_words/src/words.rt", "LEAST_LIMIT", 0),
+    (r"\b80 to ([\d,]+)", "crates/dcm_base/src/limits.rt", "LINE_LIMIT", 0),
+    (r"has at most N bytes, (\d+) to", "crates/dcm_words/src/words.rt", "LEAST_LIMIT", 0),
     (r"\(default ([\d,]+)\)|The default is ([\d,]+)\.", "crates/dcm_words/src/words.rt", "USUAL_LIMIT", 0),
-    (r"or of an edit ([\d,]+)|A value has at most ([\d,]+) bytes|or has more than ([\d,]+) bytes", "crates/dcm_base/src/limits.rt", "VALUE_LIMIT", 0),
+    (r"or of an edit ([\d,]+)|A value has at most ([\d,]+) bytes", "crates/dcm_base/src/limits.rt", "VALUE_LIMIT", 0),
     (r"(\d+) to 4,?096", "crates/dcm_cli/src/key.rt", "LEAST_OF_KEY", 0),
     (r"16 to ([\d,]+)", "crates/dcm_words/src/job.rt", "MOST_OF_KEY", 0),
     (r"1 to (\d+), in the order of the row|not 1 to (\d+) columns", "crates/dcm_table_words/src/plan.rt", "MOST_COLUMNS", 0),
@@ -226,44 +242,43 @@ def wrong_crates() -> list:
     return wrong
 
 
-def wrong_faults() -> list:
-    """The faults and refusals whose number and words PROFILE lacks."""
-    book, profile = read("crates/dcm_base/specs/Tables/Fault.antt"), read("docs/users/PROFILE.md")
-    wrong = []
-    for kind in ("fault", "line_fault", "edit_refusal", "word_fault"):
-        numbers = dict(re.findall(rf'^{kind}_number (\w+) = codes "(\w+)"', book, re.M))
-        texts = dict(re.findall(rf'^{kind}_text (\w+) = codes "([^"]+)"', book, re.M))
-        for name, number in numbers.items():
-            if not re.search(rf"\| {number} \| {texts[name]} \||`{number}[^`]*: {texts[name]}`", profile):
-                wrong.append(f"PROFILE lacks {number}: {texts[name]}")
-    return wrong
-
-
-def lines_on_standard_error() -> list:
-    """The beginnings of all lines: numbers of faults and refusals, and the words of the others."""
-    book = read("crates/dcm_base/specs/Tables/Fault.antt") + read("crates/dcm_table_words/specs/Usages.antt")
-    lines = read("crates/dcm_cli/specs/ErrorLines.antt")
-    numbers = re.findall(r'^\w+_number \w+ = codes "([RBUV]\d+)"', book, re.M)
-    whole = re.findall(r'error_line \(codes "([^"]+)"\)', lines)
-    return numbers + [text.split(":")[0] for text in whole] + ["reading failed", "edit 1 found no place"]
+def lines_on_standard_error() -> dict:
+    """The words of each line by its number, and the beginnings of the lines without one, each by itself."""
+    book, usages = read("crates/dcm_base/specs/Tables/Fault.antt"), read("crates/dcm_table_words/specs/Usages.antt")
+    lines = {"reading failed": "reading failed", "edit 1 found no place": "edit 1 found no place", "3 dates are emptied": "3 dates are emptied"}
+    for text, kinds in ((book, ("fault", "line_fault", "edit_refusal", "word_fault")), (usages, ("usage",))):
+        for kind in kinds:
+            words = dict(re.findall(rf'^{kind}_text ([\w.]+) = codes "([^"]+)"', text, re.M))
+            lines |= {number: words[name] for name, number in re.findall(rf'^{kind}_number ([\w.]+) = codes "(\w+)"', text, re.M)}
+    folders = read("crates/dcm_trees/specs/Run.antt") + read("crates/dcm_trees/specs/Fate.antt") + read("crates/dcm_trees/specs/Instance.antt")
+    for line in re.findall(r'^(?:refusal_line refusals\.\w+ part = line \(|text_of \S+ = |unfit_text uids.Study = )codes "([^"]+)"', folders, re.M):
+        lines[line] = line
+    for whole in re.findall(r'error_line \(codes "([^"]+)"\)', read("crates/dcm_cli/specs/ErrorLines.antt")):
+        number, _, rest = whole.partition(": ")
+        lines |= {number: rest} if re.fullmatch(r"V\d+", number) else {number: number}
+    return lines
 
 
 def wrong_causes() -> list:
-    """The lines that have no row in PROFILE's table of causes."""
-    section = read("docs/users/PROFILE.md").split("\n## What to do at a line\n")[1]
-    named = set()
-    for cell in re.findall(r"^\| ([^|]+) \|", section, re.M):
-        named |= set(re.findall(r"\b[RBUV]\d+\b|`([^`]+)`", cell)) | set(re.findall(r"\b[RBUV]\d+\b", cell))
-    return [f"PROFILE has no cause of {line}" for line in lines_on_standard_error() if line not in named]
+    """The lines that have neither a row in PROFILE's tables of faults nor an item in the manual's DIAGNOSTICS."""
+    section = read("docs/users/PROFILE.md").split("\n# Faults\n")[1]
+    told = dict(re.findall(r"^\| ([RBU]\d+) \| ([^|]+) \|", section, re.M))
+    diagnostics = read(MANUAL).split(".Sh DIAGNOSTICS\n")[1].split(".Sh ")[0]
+    for item in re.findall(r"^\.It (.*)$", diagnostics, re.M):
+        if refusal := re.fullmatch(r"(V\d+): (.*)", item):
+            told[refusal[1]] = refusal[2]
+        else:
+            told |= {line: line for line in (item.partition(": ")[0].removesuffix(" after 4096 bytes"), *item.split(" , "))}
+    return [f"no page has the cause of {number}: {words}" for number, words in lines_on_standard_error().items() if told.get(number) != words]
 
 
 # What a newcomer has to be told, and where: a page, a title of the manual page, a text of the program, or a script.
 WRAPPERS = ("dcm2csv", "dcmconv", "dcmdeid", "dcmdump", "dcmodify", "dump2dcm")
 TOLD = [
-    ("that an OUTPUT that is there stays", r"\bstays\b", ("README.md", "An output that is there", "MODIFY")),
+    ("that an OUTPUT that is there stays", r"\bstays\b", ("README.md", "Existing output files", "MODIFY")),
     ("what edits do not see without +dict", r"names may be left", ("README.md", "Edits of dcmodify", "MODIFY")),
     ("where the causes of lines are", r"likeliest cause", ("DIAGNOSTICS",)),
-    ("where the causes of lines are", r"#what-to-do-at-a-line", ("README.md",)),
+    ("where the causes of lines are", r"PROFILE.md#faults\)", ("README.md",)),
     ("which names of files it takes", r"UTF-8|any\s+(?:#\s+)?bytes", tuple(f"scripts/{name}" for name in WRAPPERS)),
     ("how to go on after it was cut off", r"cuts a block off", ("docs/users/COOKBOOK.md",)),
     ("that a cut behind the last column is not named", r"cut after its last column", ("docs/users/COOKBOOK.md",)),
@@ -271,7 +286,7 @@ TOLD = [
 
 
 def text_at(place: str) -> str:
-    if place.isupper() and place in TEXTS.values():
+    if place in CONSTANTS.values():
         return text_of(place)
     if place.startswith("scripts/"):
         return re.match(r"(?:#.*\n)*", read(place))[0]
@@ -285,66 +300,6 @@ def wrong_told() -> list:
 
 
 # ---- the texts of the program
-
-
-def text_of(name: str) -> str:
-    """A text of the program, by the name of its constant."""
-    return re.search(rf'const {name}: &str = "(?:\\\n)?(.*?)";', read("crates/dcm_words/src/texts.rt"), re.S)[1]
-
-
-def shown_options(tool: str) -> set:
-    """The options in the text of a tool: the first word of each indented line."""
-    return set(re.findall(r"^  ([-+]\S+)", text_of(TEXTS[tool]), re.M))
-
-
-def manual_options(tool: str) -> set:
-    """The options that the manual page describes of a tool, with those of the dictionaries."""
-    page = read(MANUAL)
-    title = {"dcmodify": "Edits of dcmodify", "dcm2csv": "Words of dcm2csv"}.get(tool, f"Options of {tool}")
-    sections = [page.split(f".Ss {title}")[1].split(".Ss")[0]]
-    if tool not in ("dump2dcm", "dcmdeid", "dcm2csv"):
-        sections.append(page.split(".Ss The dictionaries")[1].split(".Ss")[0])
-    if tool in OF_TREES:
-        sections.append(page.split(".Ss Trees of files")[1].split(".Ss")[0])
-    if tool in WITH_OUTPUT:
-        sections.append(page.split(".Ss An output that is there")[1].split(".Ss")[0])
-    items = re.findall(r"^\.It (Fl|Cm) (\S+)", "\n".join(sections), re.M)
-    return {("-" if kind == "Fl" else "") + word for kind, word in items if word != "@"}
-
-
-def profile_options(tool: str) -> set:
-    """The options and edits in the first tables of a tool's section of PROFILE."""
-    titles = (tool, "Trees of files") if tool in OF_TREES else (tool,)
-    sections = [re.split(r"\n##? ", read("docs/users/PROFILE.md").split(f"\n# {title}\n")[1])[0] for title in titles]
-    cells = re.findall(r"^\| (`[-+][^|]*) \|", "\n".join(sections), re.M)
-    found = {span.split()[0] for cell in cells for span in re.findall(r"`([^`]*)`", cell)}
-    found |= {"+ow"} if tool in WITH_OUTPUT else set()
-    return found | ({"-dict", "+dict"} if tool == "dcmodify" else set())
-
-
-def bash_options(tool: str) -> set:
-    words = re.search(rf"^\s+{tool}\) switches='([^']*)'", read("completions/dcmtools.bash"), re.M)[1].split()
-    return {word for word in words if not word.startswith("--")}
-
-
-def zsh_options(tool: str) -> set:
-    page = read("completions/_dcmtools")
-    case = re.search(rf"^    {tool}\)\n(.*?);;\n    (?=\S)", page, re.M | re.S)[1]
-    found = set(re.findall(r"^\s+'([-+][^-:][^:]*):", case, re.M))
-    found |= {"-dict", "+dict"} if "$dictionaries" in case else set()
-    found |= {"+ow"} if "$overwrites" in case else set()
-    return found | (set(re.findall(r"^\s+'(\+\w+):", re.search(r"^  trees=\(\n(.*?)^  \)", page, re.M | re.S)[1], re.M)) if "$trees" in case else set())
-
-
-def wrong_options() -> list:
-    wrong = []
-    places = (("the manual page", manual_options), ("PROFILE", profile_options), ("bash", bash_options), ("zsh", zsh_options))
-    for tool in TEXTS:
-        shown = shown_options(tool)
-        for where, options in places:
-            if options(tool) != shown:
-                wrong.append(f"{tool}: {where} and the text differ in {sorted(options(tool) ^ shown)}")
-    return wrong
 
 
 def wrong_names() -> list:
@@ -373,7 +328,8 @@ def wrong_statuses() -> list:
 def items_without_comment() -> list:
     found = []
     for path in sources(".rt"):
-        if "src" not in path.parts or "tests" in path.parts or path.name == "tests.rt":
+        is_test = any(part == "tests" or part.endswith("_tests") for part in path.parts)
+        if "src" not in path.parts or is_test or path.name == "tests.rt":
             continue
         lines = path.read_text().splitlines()
         for number, line in enumerate(lines):
@@ -392,7 +348,7 @@ def main() -> int:
         found = items_without_comment()
         print("\n".join(found + [f"{len(found)} public items without a comment"]))
         return 1 if found else 0
-    checks = (wrong_sentences, wrong_sizes, wrong_links, wrong_citations, wrong_facts, wrong_crates, wrong_faults, wrong_causes, wrong_told, wrong_options, wrong_names, wrong_statuses)
+    checks = (wrong_sentences, wrong_sizes, wrong_links, wrong_citations, wrong_facts, wrong_crates, wrong_causes, wrong_told, wrong_names, wrong_statuses)
     wrong = [fault for check in checks for fault in check()]
     print("\n".join(wrong + [f"{len(wrong)} wrong"]))
     return 1 if wrong else 0

@@ -243,8 +243,8 @@ def holds(run, expected):
 
 
 def one_element(run):
-    lines = [line for line in run.printed.split(b"\n") if line]
-    return is_done(run) + holds(run, {}) + ([] if len(lines) == 2 and all(b"[AB^CD]" in line for line in lines) else [f"printed {run.printed!r}"])
+    values = re.findall(rb"^\([0-9a-f,]+\) .. \[(.*?)\]", run.printed, re.MULTILINE)
+    return is_done(run) + holds(run, {}) + ([] if values == [b"AB^CD", b"7"] else [f"printed {run.printed!r}"])
 
 
 TABLE_ROWS = {
@@ -538,7 +538,7 @@ class Block(NamedTuple):
 
 
 BLOCKS = [
-    Block("    dcmtools dcmdump +dict scan.dcm |", one_element),
+    Block("dcmtools dcmdump +P PatientName", one_element),
     Block("    columns=(-k", table),
     Block("    find in/ -type f -print0 | xargs -0 -r dcmtools dcm2csv +nh -k DataSetTrailingPadding", cut_files_named),
     Block("sqlite3 table.db", table_in_sqlite, with_table, needs=("sqlite3",)),
@@ -827,9 +827,9 @@ def readme_commands():
 
 def wrong_commands(binary):
     """The commands of README and of the manual page that do not end with status 0, on a file that has all the elements that they name."""
-    content = scan(b"AB^CD", b"7", PRIVATE + leaf(0x00181151, "IS", b"5"))
+    content = scan(b"AB^CD", b"7", PRIVATE + leaf(0x00181151, "IS", b"5") + uid(STUDY, b"7") + uid(SERIES, b"7"))
     images = leaf(0x00081140, "SQ", item(leaf(0x00081155, "UI", b"1.2\0")))
-    content = content.replace(MODALITY, MODALITY + images)
+    content = content.replace(MODALITY, uid(INSTANCE, b"7") + MODALITY + images)
     # an image, as a scanner makes them, has a value that is longer than a line of dump2dcm
     image = content + leaf(0x7FE00010, "OB", bytes(20_000))
     for command in readme_commands() + manual_commands():
