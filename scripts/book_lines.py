@@ -38,7 +38,7 @@ JOBS = {
 # what a tool promises, each part without what an earlier one has
 PARTS = [
     ("its answer to a whole input", ["dcm_cli.Answer.Answers"]),
-    ("a beginning", ["dcm_cli.Answer.Sure"]),
+    ("a failed reading", ["dcm_cli.Answer.Sure"]),
     ("the run", ["dcm_cli.Calls.Runs"]),
     ("the arguments, and what is opened", ["dcm_words.Words.meant", "dcm_cli.Program.Obeys"]),
 ]
@@ -296,7 +296,7 @@ def table() -> str:
         rows.append(f"| {tool} | {' | '.join(cells)} | {sum(sum(part.values()) for part in parts[tool]):,} |")
     trees = {tool: trees_of(tool) for tool in OF_TREES}
     more = ", ".join(f"{tool} {sum(lines.values()):,}" for tool, lines in trees.items())
-    rows.append(f"\nRuns over a folder (`+r`) take more lines: {more}.")
+    rows.append(f"\nRuns over a folder (`+r`) add lines: {more}.")
     everything = {key for tool in JOBS for part in [*parts[tool], trees.get(tool, {})] for key in part}
     chosen = [book().definitions[file][name] for file, name in everything]
     lines = sum(len(chunk.head) + sum(map(len, chunk.cases)) for chunk in chosen)
