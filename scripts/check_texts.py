@@ -34,7 +34,7 @@ MOST_WORDS = {
     "README.md": 720,
     "CHANGELOG.md": 510,
     "CONTRIBUTING.md": 1_236,
-    "docs/PERF.md": 1_140,
+    "docs/PERF.md": 1_176,
     "docs/auditors/DEFINITIONS.md": 1_751,
     "docs/auditors/PROVED.md": 1_545,
     "docs/engineers/ARCHITECTURE.md": 1_854,
