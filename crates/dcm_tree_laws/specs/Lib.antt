@@ -26,3 +26,5 @@ pub mod Course
 pub mod Visited
 pub mod Apart
 pub mod Lines
+pub mod Ideal
+pub mod IdealLaws
