@@ -4,3 +4,6 @@ pub mod Done
 pub mod Second
 pub mod Turned
 pub mod SharesOne
+pub mod Looks
+pub mod Kept
+pub mod Over

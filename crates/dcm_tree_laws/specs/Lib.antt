@@ -28,3 +28,4 @@ pub mod Apart
 pub mod Lines
 pub mod Ideal
 pub mod IdealLaws
+pub mod Ran

@@ -2,6 +2,9 @@
 ghost use Rattle.dcm_tree_laws.specs.IdealLaws.{FreeIsWritten, NewIsContinued, NoNameFlows, OneRow, OutputsAreDistinct};
 ghost use Rattle.dcm_tree_laws.specs.IdealLaws.{OutputsStay, SecondIsFirst, SharesAreOne, StatusSays, WrittenIsMade};
 ghost use Rattle.dcm_tree_laws.specs.IdealLaws.{WrittenIsThere};
+ghost use Rattle.dcm_tree_laws.specs.Ran.{KeptRunIsIdeal};
+
+use dcm_base::{DeviceIn, DeviceOut};
 
 /// A run changes nothing that was in the folder of the outputs, and each output that a row says was written is there at
 /// its end, with its mode and all its bytes.
@@ -54,4 +57,12 @@ pub fn shares_are_one_run()
 /// keeps names.
 pub fn no_name_flows()
     ensures names { NoNameFlows }
+{}
+
+/// A run over a folder or a list that keeps names leaves the outputs and the rows of the ideal run. So it is where each
+/// call succeeds that may, readers give what files hold, outputs tell what they took, and the run does not end before its
+/// last name. The files that it reads were there at the start, and are no parts. The system tells apart the outputs, and
+/// the folders on their ways: the paths of two of them lead to two places, unless they go through a link.
+pub fn kept_runs_are_ideal<I: DeviceIn, O: DeviceOut, W: DeviceOut, E: DeviceOut, F>()
+    ensures run { KeptRunIsIdeal F I.DeviceIn O.DeviceOut W.DeviceOut E.DeviceOut }
 {}

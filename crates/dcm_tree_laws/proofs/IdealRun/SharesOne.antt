@@ -12,11 +12,11 @@ use Rattle.dcm_tree_laws.proofs.IdealRun.Turned.{Turned, no_more, first_stays, t
 
 -- ---- one run behind another
 
-run_append : (continues : Bool) (o : Outputs) (xs ys : List Name) → outputs_after continues o (xs ++ ys) ≡ outputs_after continues (outputs_after continues o xs) ys
+pub run_append : (continues : Bool) (o : Outputs) (xs ys : List Name) → outputs_after continues o (xs ++ ys) ≡ outputs_after continues (outputs_after continues o xs) ys
 run_append continues o [] ys = refl
 run_append continues o (n ∷ xs) ys = run_append continues (put (become continues o n.comes) o) xs ys
 
-rows_append : (continues : Bool) (o : Outputs) (xs ys : List Name) → rows_of continues o (xs ++ ys) ≡ rows_of continues o xs ++ rows_of continues (outputs_after continues o xs) ys
+pub rows_append : (continues : Bool) (o : Outputs) (xs ys : List Name) → rows_of continues o (xs ++ ys) ≡ rows_of continues o xs ++ rows_of continues (outputs_after continues o xs) ys
 rows_append continues o [] ys = refl
 rows_append continues o (n ∷ xs) ys = ap (λ rows. record { name = n.name; became = become continues o n.comes } ∷ rows) (rows_append continues (put (become continues o n.comes) o) xs ys)
 
