@@ -101,3 +101,4 @@ pub mod VisitedRuns
 pub mod NumberAt
 pub mod ApartBy
 pub mod LinesBy
+pub mod IdealRun

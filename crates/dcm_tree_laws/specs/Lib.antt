@@ -26,3 +26,6 @@ pub mod Course
 pub mod Visited
 pub mod Apart
 pub mod Lines
+pub mod Ideal
+pub mod IdealLaws
+pub mod Ran

@@ -1,0 +1,9 @@
+pub mod Places
+pub mod Steps
+pub mod Done
+pub mod Second
+pub mod Turned
+pub mod SharesOne
+pub mod Looks
+pub mod Kept
+pub mod Over
