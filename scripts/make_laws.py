@@ -4,7 +4,7 @@
     scripts/make_laws.py            writes the table
     scripts/make_laws.py --check    ends with 1 where the page has another one, or a line is too long
 
-A law is a public function of a crate's src/laws.rt, whose contract is what is proved. Those of ON_THE_WAY carry what the contracts of
+A law is a public function of a crate's src/laws.rt, or of its src/ideal.rt, whose contract is what is proved. Those of ON_THE_WAY carry what the contracts of
 functions say up to the definitions, and are counted without a line. Those of IN_THE_THEOREM are named in the promises of PROVED.
 """
 import re
@@ -60,14 +60,19 @@ def in_the_theorem(crate: str) -> set:
     return set(IN_THE_THEOREM.get(crate, "").split())
 
 
-def laws_of(crate: str) -> list:
-    """The name of each law and the sentences of its comment."""
-    text = (ROOT / "crates" / crate / "src/laws.rt").read_text()
+def laws_in(path: Path, module: str) -> list:
+    """The name of each law of a file and the sentences of its comment."""
     laws = []
-    for comment, name in re.findall(r"((?:^///.*\n)+)pub fn (\w+)", text, re.M):
+    for comment, name in re.findall(r"((?:^///.*\n)+)pub fn (\w+)", path.read_text(), re.M):
         words = " ".join(line[3:].strip() for line in comment.splitlines())
-        laws.append((name, re.split(r"(?<=[.]) (?=[A-Z`]|dcm)", words)))
+        laws.append((module + name, re.split(r"(?<=[.]) (?=[A-Z`]|dcm)", words)))
     return laws
+
+
+def laws_of(crate: str) -> list:
+    files = {"laws.rt": "", "ideal.rt": "ideal::"}
+    found = [(ROOT / "crates" / crate / "src" / name, module) for name, module in files.items()]
+    return [law for path, module in found if path.exists() for law in laws_in(path, module)]
 
 
 def crates() -> list:

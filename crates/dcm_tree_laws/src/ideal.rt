@@ -6,8 +6,8 @@ ghost use Rattle.dcm_tree_laws.specs.Ran.{KeptRunIsIdeal};
 
 use dcm_base::{DeviceIn, DeviceOut};
 
-/// A run changes nothing that was in the folder of the outputs, and each output that a row says was written is there at
-/// its end, with its mode and all its bytes.
+/// A run changes nothing that was in the folder of the outputs. Each output that a row says was written is there at the
+/// end of the run, with its mode and all its bytes.
 pub fn outputs_stay()
     ensures stay { OutputsStay }
     ensures written { WrittenIsThere }
