@@ -32,7 +32,7 @@ GENERATED = "docs/auditors/LAWS.md"
 # The most words of each page.
 MOST_WORDS = {
     "README.md": 720,
-    "CHANGELOG.md": 510,
+    "CHANGELOG.md": 515,
     "CONTRIBUTING.md": 1_236,
     "docs/PERF.md": 1_140,
     "docs/auditors/DEFINITIONS.md": 1_745,
