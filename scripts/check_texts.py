@@ -32,7 +32,7 @@ GENERATED = "docs/auditors/LAWS.md"
 # The most words of each page.
 MOST_WORDS = {
     "README.md": 720,
-    "CHANGELOG.md": 510,
+    "CHANGELOG.md": 515,
     "CONTRIBUTING.md": 1_236,
     "docs/PERF.md": 1_176,
     "docs/auditors/DEFINITIONS.md": 1_751,
@@ -44,7 +44,7 @@ MOST_WORDS = {
     "docs/users/BENCHMARKS.md": 515,
     "docs/users/COOKBOOK.md": 1_854,
     "docs/users/PROFILE.md": 5_665,
-    MANUAL: 2_990,
+    MANUAL: 3_480,
 }
 LONG, LONGEST, MOST_LONG = 30, 45, 20
 

@@ -8,7 +8,7 @@ each file that fails has to be named, and the status is 0 only where none did; a
 Each block is also run on a tree of sound files, on files that are cut, where its folders are there, without each program that it needs
 beside the usual ones, with links in place of its files, by signals, and by root on its own files and on a full disk. Of README's table
 and of the manual page each command has to end with status 0. sqlite3 and GNU parallel have to be installed. Commands that the page
-calls not tried (DuckDB, pandas, Slurm, Spark) are no blocks, and are not run.
+calls not tried (Slurm) are no blocks, and are not run.
 
     scripts/try_cookbook.py [BINARY]
 
@@ -497,10 +497,6 @@ def as_text(run):
     return wrong + is_done(run) + holds(run, {b"scan.txt": (None, 0o600), b"edited.dcm": (scan(b"Doe^Jane"), 0o640)})
 
 
-def built(run):
-    return is_done(run) + holds(run, {b"built.dcm": (SCAN, 0o640)})
-
-
 def from_elsewhere(run):
     return is_done(run) + holds(run, {b"large.dcm": (SCAN, 0o600)})
 
@@ -557,7 +553,6 @@ BLOCKS = [
     Block("dcmtools dcmdeid +k site.key +pi +rm -1234", moved_study, with_key, sound=with_key),
     Block("printf 'PatientID", patient_found, with_key, needs=("openssl", "xxd"), sound=with_key),
     Block("    dcmtools dcmdump +L scan.dcm > scan.txt", as_text),
-    Block("    dcmtools dcmdump +L scan.dcm |", built),
     Block("    ssh archive", from_elsewhere, needs=("ssh",)),
     Block("    for syntax in", which_syntax),
     Block("    { head -c 128 /dev/zero", set_made_whole),
