@@ -57,8 +57,8 @@ def wrong_tags(binary, path, tags, hidden):
     for tag in tags:
         ours = printed(binary, "dcmdump", "+dict", "+p", "+P", f"({tag.decode()})", path)
         theirs = printed("dcmdump", "-q", "+p", "+P", tag.decode(), path)
-        if ours is None or theirs is None or ways(ours, tag, hidden) != ways(theirs, tag):
-            yield f"{path.name}: {tag.decode()}: {ways(ours or b'', tag, hidden)} here, {ways(theirs or b'', tag)} by DCMTK"
+        if ours is None or theirs is None or ways(ours, tag, hidden) != ways(theirs, tag, hidden):
+            yield f"{path.name}: {tag.decode()}: {ways(ours or b'', tag, hidden)} here, {ways(theirs or b'', tag, hidden)} by DCMTK"
 
 
 def wrong_whole(binary, path, dump, tags):
