@@ -5,5 +5,7 @@ pub mod Second
 pub mod Turned
 pub mod SharesOne
 pub mod Looks
+pub mod Shown
 pub mod Kept
+pub mod Named
 pub mod Over

@@ -1,16 +1,20 @@
 -- A run over a tree leaves what the ideal run leaves, where each call succeeds that may.
-use Rattle.std.specs.Prelude.{◌≡◌, ◌≢◌, ℕ, nat_le, length, List, [], ◌∷◌, ◌++◌, map, Bool, true, false, Option, Some, None}
+use Rattle.std.specs.Prelude.{◌≡◌, ◌≢◌, ◌≤◌, ℕ, nat_le, length, List, [], ◌∷◌, ◌++◌, map, Bool, true, false, Option, Some, None, Ok}
 use Rattle.std.specs.Io.KnownBytes.{append_known}
 use Rattle.std.specs.Str.{IsUtf8}
 use Rattle.dcm_devices.specs.Writing.{Writer}
 use Rattle.dcm_files.specs.declared.folders.Found.{Found}
 use Rattle.dcm_files.specs.declared.folders.FoundKind.TheVariants as kinds
+use Rattle.dcm_base.specs.Reading.Reads.{INPUT_LIMIT}
+use Rattle.dcm_instance.specs.ReadInstance.{FileNames}
+use Rattle.dcm_instance.specs.Uids.{Uids, instance_name}
 use Rattle.dcm_walk.specs.Names.{PATH_LIMIT, below}
 use Rattle.dcm_walk.specs.declared.visitor.What.TheVariants.{File}
 use Rattle.dcm_cli.specs.Calls.{Reader}
 use Rattle.dcm_cli.specs.declared.ending.Verdict.{Verdict}
 use Rattle.dcm_cli.specs.declared.ending.Verdict.TheVariants.{Done, PixelsMayShow, Refused, RefusedLine}
 use Rattle.dcm_trees.specs.declared.beginning.Begun.{Begun}
+use Rattle.dcm_trees.specs.declared.fate.Fate.{Fate}
 use Rattle.dcm_trees.specs.declared.fate.Fate.TheVariants as fates
 use Rattle.dcm_trees.specs.declared.run.TreeRun.{TreeRun}
 use Rattle.dcm_trees.specs.Fate.{fate_of as what_fate, word}
@@ -18,15 +22,16 @@ use Rattle.dcm_trees.specs.File.{is_media_index}
 use Rattle.dcm_trees.specs.Task.{Task, task_of}
 use Rattle.dcm_trees.specs.Work as work
 use Rattle.dcm_tree_laws.specs.Again.{OfAll}
-use Rattle.dcm_tree_laws.specs.Determined.{FileEnd, was_done, no_job, EndsAs, working}
+use Rattle.dcm_tree_laws.specs.Copies.{EndsUnnamed}
+use Rattle.dcm_tree_laws.specs.Determined.{FollowsLinks, ComesTo, FileEnd, was_done, no_job, EndsAs, working}
 use Rattle.dcm_tree_laws.specs.FileSystem.{FileSystem, Tree, Host, number_of, place_of, at_path}
 use Rattle.dcm_tree_laws.specs.Ideal.{Thing, a_file, a_folder, no_file, Outputs, is_on_way, has_way, Made, nothing, an_output}
-use Rattle.dcm_tree_laws.specs.Ideal.{Comes, without, kept, Name, Row, outputs_after, rows_of, share, fate_of, output_of}
+use Rattle.dcm_tree_laws.specs.Ideal.{Comes, without, kept, named, Name, Row, outputs_after, rows_of, share, fate_of, output_of}
 use Rattle.dcm_tree_laws.specs.IdealLaws.{its_output}
 use Rattle.dcm_tree_laws.specs.Laws.{part_path}
 use Rattle.dcm_tree_laws.specs.Rows.{Visit}
 use Rattle.dcm_tree_laws.specs.Single.{TellsAll}
-use Rattle.dcm_tree_laws.specs.Together.{HasBytes, Visited}
+use Rattle.dcm_tree_laws.specs.Together.{HasBytes, NamesInstance, Visited}
 
 -- ---- what a name comes to
 
@@ -41,29 +46,43 @@ abbrev pub made_by : (mode : ℕ) → FileEnd → Made
 made_by mode (was_done bytes verdict) = made_of mode bytes verdict
 made_by mode (no_job stop) = nothing fates.Refused
 
--- in a run that keeps names, by what is there: it is no file; the index of a medium; a file at whose name no output can
--- be, since its path is too long; or a file that is read, and ends so
-pub data KeptComes {I O : Type 0} (h : Host I O) (task : Task) (output : List ℕ) (t : Tree) (v : Visit) (comes : Comes)
-    : Type 0 where
+-- by what is there: it is no file, or the index of a medium. In a run that keeps names it is a file at whose name no
+-- output can be, since its path is too long; or a file that is read, and ends so. In one that does not, it is a file that
+-- ends without a name; one whose instance has a path that is too long; or one that names this instance
+pub data NameComes {I O : Type 0} (h : Host I O) (keeps : Bool) (task : Task) (output : List ℕ) (t : Tree) (v : Visit)
+    (comes : Comes) : Type 0 where
   comes_of_no_file : ((mode : ℕ) → v.what ≢ File mode) → comes ≡ without (what_fate v.what)
-      → KeptComes h task output t v comes
+      → NameComes h keeps task output t v comes
   comes_of_index : (mode : ℕ) → v.what ≡ File mode → is_media_index v.named.relative ≡ true
-      → comes ≡ without fates.MediaIndex → KeptComes h task output t v comes
-  comes_too_long : (mode : ℕ) → v.what ≡ File mode → is_media_index v.named.relative ≡ false
+      → comes ≡ without fates.MediaIndex → NameComes h keeps task output t v comes
+  kept_too_long : (mode : ℕ) → keeps ≡ true → v.what ≡ File mode → is_media_index v.named.relative ≡ false
       → nat_le (length (below output v.named.relative)) PATH_LIMIT ≡ false → comes ≡ without fates.Unwritten
-      → KeptComes h task output t v comes
-  comes_of_file : (mode : ℕ) (bytes : List ℕ) (end : FileEnd) → v.what ≡ File mode
+      → NameComes h keeps task output t v comes
+  kept_file : (mode : ℕ) (bytes : List ℕ) (end : FileEnd) → keeps ≡ true → v.what ≡ File mode
       → is_media_index v.named.relative ≡ false
       → nat_le (length (below output v.named.relative)) PATH_LIMIT ≡ true → HasBytes h output t v bytes
       → EndsAs task bytes end → comes ≡ kept v.named.relative (made_by (h.masked mode) end)
-      → KeptComes h task output t v comes
+      → NameComes h keeps task output t v comes
+  unnamed_file : (mode : ℕ) (bytes : List ℕ) (fate : Fate) → keeps ≡ false → v.what ≡ File mode
+      → is_media_index v.named.relative ≡ false → HasBytes h output t v bytes → EndsUnnamed task bytes fate
+      → comes ≡ without fate → NameComes h keeps task output t v comes
+  named_too_long : (mode : ℕ) (bytes made : List ℕ) (uids : Uids) → keeps ≡ false → v.what ≡ File mode
+      → is_media_index v.named.relative ≡ false → HasBytes h output t v bytes → NamesInstance task bytes made uids
+      → length made ≤ INPUT_LIMIT → nat_le (length (below output (instance_name uids))) PATH_LIMIT ≡ false
+      → comes ≡ without fates.Unwritten → NameComes h keeps task output t v comes
+  named_file : (mode : ℕ) (bytes made : List ℕ) (unplaced : ℕ) (uids : Uids) → keeps ≡ false → v.what ≡ File mode
+      → is_media_index v.named.relative ≡ false → HasBytes h output t v bytes → ComesTo task bytes made (Done unplaced)
+      → FileNames made (Ok uids) → length made ≤ INPUT_LIMIT
+      → nat_le (length (below output (instance_name uids))) PATH_LIMIT ≡ true
+      → comes ≡ named (instance_name uids) (record { mode = h.masked mode; bytes = made; unplaced = unplaced })
+      → NameComes h keeps task output t v comes
 
 -- a name that is visited is this one
-pub record IsName {I O : Type 0} (h : Host I O) (task : Task) (output : List ℕ) (t : Tree) (v : Visit) (n : Name)
-    : Type 0 where
+pub record IsName {I O : Type 0} (h : Host I O) (keeps : Bool) (task : Task) (output : List ℕ) (t : Tree) (v : Visit)
+    (n : Name) : Type 0 where
   pub name_is : n.name ≡ v.named.name
   pub relative_is : n.relative ≡ v.named.relative
-  pub comes_is : KeptComes h task output t v n.comes
+  pub comes_is : NameComes h keeps task output t v n.comes
 
 -- ---- what is in the folder of the outputs
 
@@ -119,13 +138,13 @@ text_of [] = []
 text_of (row ∷ rows) =
     work.row row.name (output_of row.became) (word (fate_of row.became)) ++ text_of rows
 
--- a run that keeps names leaves the outputs and the rows of the ideal run
-abbrev pub KeptRunIsIdeal : {I O W E : Type 0} → (F : Type 0) → Reader I → Writer O → Writer W → Writer E → Type 0
-KeptRunIsIdeal {I} {O} {W} {E} F reader output m errors =
+-- a run leaves the outputs and the rows of the ideal run
+abbrev pub RunIsIdeal : {I O W E : Type 0} → (F : Type 0) → Reader I → Writer O → Writer W → Writer E → Type 0
+RunIsIdeal {I} {O} {W} {E} F reader output m errors =
     (h : Host I O) (run : TreeRun) (before : FileSystem) (visits : List Visit) (headed left : W) (after : FileSystem)
     (name_of : Visit → Name) (is_spoken : List ℕ → Bool) (outputs : Outputs) → TellsAll h output
-    → run.options.keeps_names ≡ true → Ran F h reader output m errors run before visits headed left after
-    → OfAll (λ v. IsName h (task_of run.task) run.output.now before.now v (name_of v)) visits
+    → (run.options.keeps_names ≡ false → FollowsLinks h before.now) → Ran F h reader output m errors run before visits headed left after
+    → OfAll (λ v. IsName h run.options.keeps_names (task_of run.task) run.output.now before.now v (name_of v)) visits
     → OfAll (λ v. SpeaksOf is_spoken (name_of v)) visits
     → TellsApart h run.output.now (part_path run) is_spoken outputs
     → Shows h run.output.now is_spoken before.now outputs

@@ -2,7 +2,7 @@
 ghost use Rattle.dcm_tree_laws.specs.IdealLaws.{FreeIsWritten, NewIsContinued, NoNameFlows, OneRow, OutputsAreDistinct};
 ghost use Rattle.dcm_tree_laws.specs.IdealLaws.{OutputsStay, SecondIsFirst, SharesAreOne, StatusSays, WrittenIsMade};
 ghost use Rattle.dcm_tree_laws.specs.IdealLaws.{WrittenIsThere};
-ghost use Rattle.dcm_tree_laws.specs.Ran.{KeptRunIsIdeal};
+ghost use Rattle.dcm_tree_laws.specs.Ran.{RunIsIdeal};
 
 use dcm_base::{DeviceIn, DeviceOut};
 
@@ -59,10 +59,11 @@ pub fn no_name_flows()
     ensures names { NoNameFlows }
 {}
 
-/// A run over a folder or a list that keeps names leaves the outputs and the rows of the ideal run. So it is where each
-/// call succeeds that may, readers give what files hold, outputs tell what they took, and the run does not end before its
-/// last name. The files that it reads were there at the start, and are no parts. The system tells apart the outputs, and
-/// the folders on their ways: the paths of two of them lead to two places, unless they go through a link.
-pub fn kept_runs_are_ideal<I: DeviceIn, O: DeviceOut, W: DeviceOut, E: DeviceOut, F>()
-    ensures run { KeptRunIsIdeal F I.DeviceIn O.DeviceOut W.DeviceOut E.DeviceOut }
+/// A run over a folder or a list leaves the outputs and the rows of the ideal run. So it is where each call succeeds that
+/// may, readers give what files hold, outputs tell what they took, and the run does not end before its last name. The
+/// files that it reads were there at the start, and are no parts. The system tells apart the outputs, and the folders on
+/// their ways: the paths of two of them lead to two places, unless they go through a link. Where instances name outputs,
+/// what is written of a file has no more bytes than an input may have, and a path where no link is leads to one place.
+pub fn runs_are_ideal<I: DeviceIn, O: DeviceOut, W: DeviceOut, E: DeviceOut, F>()
+    ensures run { RunIsIdeal F I.DeviceIn O.DeviceOut W.DeviceOut E.DeviceOut }
 {}

@@ -56,7 +56,7 @@ written_is_made continues o (named s its) r out e = named_made o s its (place_at
 -- ---- the status 0
 
 -- a file that is there stays
-held_some : (w : Bool) (t : Option Thing) (bytes : List ℕ) → place_in w t ≡ held bytes → (mode : ℕ) × (t ≡ Some (a_file mode bytes))
+pub held_some : (w : Bool) (t : Option Thing) (bytes : List ℕ) → place_in w t ≡ held bytes → (mode : ℕ) × (t ≡ Some (a_file mode bytes))
 held_some w None bytes e = absurd (held_none w bytes e)
   where
     held_none : (v : Bool) (b : List ℕ) → place_in v None ≡ held b → ⊥

@@ -1,9 +1,0 @@
-use Rattle.dcm_cli.proofs.Passes.Readers.{members, writer}
-use Rattle.dcm_tree_laws.proofs.IdealRun.Over.{kept_run_is_ideal}
-use Rattle.dcm_tree_laws.proofs.ideal.kept_runs_are_ideal.Goals as goal
-
-pub returns : goal.returns
-returns g c = record {
-  run = λ h run before visits headed left after name_of is_spoken outputs tells keeps ran named speaks apart shows.
-      kept_run_is_ideal (members g.I.Device g.I.DeviceIn) (writer g.O.Device g.O.DeviceOut) (writer g.W.Device g.W.DeviceOut) (writer g.E.Device g.E.DeviceOut) h run before visits headed left after name_of is_spoken outputs tells keeps ran named speaks apart shows;
-}
