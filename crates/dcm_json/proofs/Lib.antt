@@ -1,0 +1,3 @@
+pub mod PlainFronts
+pub mod Escapes
+pub mod Written

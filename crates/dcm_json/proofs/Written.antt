@@ -1,0 +1,48 @@
+-- What went out of a text so far.
+use Rattle.std.proofs.Common.{◌≡◌, ◌∙◌, sym, ap, refl, subst, ℕ, List, [], ◌∷◌, ◌++◌, length, arith, Option, append-nil, append_assoc}
+use Rattle.std.specs.Prelude.{Result, IsErr}
+use Rattle.std.specs.Io.KnownBytes.{append_known}
+use Rattle.dcm_lemmas.proofs.Options.{known_nothing, known_twice}
+use Rattle.dcm_devices.specs.Device.{AppendsFront, Puts}
+use Rattle.dcm_devices.specs.Writing.{Writer, Wrote}
+use Rattle.dcm_devices.proofs.Writes.Puts.{puts_behind, puts_err, front_longer}
+
+pub record SoFar (old now : Option (List ℕ)) (all rest : List ℕ) : Type 0 where
+  pub first : List ℕ
+  pub whole : all ≡ first ++ rest
+  pub grown : now ≡ append_known old first
+
+pub none_yet : (old : Option (List ℕ)) (all : List ℕ) → SoFar old old all all
+none_yet old all = record { first = []; whole = refl; grown = sym (known_nothing old) }
+
+pub one_more : {old mid : Option (List ℕ)} {all rest : List ℕ} (new : Option (List ℕ)) (more after : List ℕ) → SoFar old mid all rest → rest ≡ more ++ after → new ≡ append_known mid more → SoFar old new all after
+one_more {old} {mid} {all} {rest} new more after s e g = record {
+  first = s.first ++ more;
+  whole = s.whole ∙ ap (λ (x : List ℕ). s.first ++ x) e ∙ sym (append_assoc s.first more after);
+  grown = g ∙ ap (λ (k : Option (List ℕ)). append_known k more) s.grown ∙ known_twice old s.first more;
+}
+
+-- the next of them broke off
+pub next_failed : {T E : Type 0} {old mid : Option (List ℕ)} {all rest : List ℕ} (new : Option (List ℕ)) (more after : List ℕ) (r : Result T E) → SoFar old mid all rest → rest ≡ more ++ after → IsErr r → AppendsFront mid new more → Puts old new all r
+next_failed {T} {E} {old} {mid} {all} {rest} new more after r s e failed front =
+    subst (λ (x : List ℕ). Puts {T = T} {E = E} old new x r) (sym s.whole)
+    (puts_behind old mid new s.first rest r s.grown (puts_err mid new rest r failed (subst (AppendsFront mid new) (sym e) (front_longer after front))))
+
+pub all_out : {old now : Option (List ℕ)} {all rest : List ℕ} → SoFar old now all rest → rest ≡ [] → now ≡ append_known old all
+all_out {old} {now} {all} {rest} s e =
+    s.grown ∙ ap (append_known old) (sym (s.whole ∙ ap (λ (r : List ℕ). s.first ++ r) e ∙ append-nil s.first))
+
+-- the last of them
+pub last_out : {T E : Type 0} {old mid : Option (List ℕ)} {all rest : List ℕ} (new : Option (List ℕ)) (r : Result T E) → SoFar old mid all rest → Puts mid new rest r → Puts old new all r
+last_out {T} {E} {old} {mid} {all} {rest} new r s put =
+    subst (λ (x : List ℕ). Puts {T = T} {E = E} old new x r) (sym s.whole) (puts_behind old mid new s.first rest r s.grown put)
+
+-- the same bytes
+pub wrote_as : {W T E : Type 0} {w : Writer W} {old new : W} {all : List ℕ} {r : Result T E} (same : List ℕ) → all ≡ same → Wrote w old new all r → Wrote w old new same r
+wrote_as {W} {T} {E} {w} {old} {new} {all} {r} same e h = subst (λ (x : List ℕ). Wrote {T = T} {E = E} w old new x r) e h
+
+-- ---- lists
+
+pub nothing_left : (bytes : List ℕ) → length bytes ≡ 0 → bytes ≡ []
+nothing_left [] e = refl
+nothing_left (b ∷ bs) e = absurd (omega (arith, e))

@@ -1,0 +1,7 @@
+// What is known of the texts that are written.
+ghost use Rattle.dcm_json.specs.Laws as law;
+
+/// A string that is written in pieces is the string of all of them.
+pub fn strings_in_pieces()
+    ensures { law.StringsInPieces }
+{}
