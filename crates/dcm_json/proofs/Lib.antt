@@ -1,3 +1,4 @@
 pub mod PlainFronts
 pub mod Escapes
 pub mod Written
+pub mod Numbers

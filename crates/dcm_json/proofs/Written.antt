@@ -1,9 +1,10 @@
 -- What went out of a text so far.
-use Rattle.std.proofs.Common.{◌≡◌, ◌∙◌, sym, ap, refl, subst, ℕ, List, [], ◌∷◌, ◌++◌, length, arith, Option, append-nil, append_assoc}
+use Rattle.std.proofs.Common.{◌≡◌, ◌∙◌, sym, ap, refl, subst, ℕ, List, [], ◌∷◌, ◌++◌, length, replicate, suc, ◌+◌, ◌-◌, ◌<◌, ◌≤◌, arith, Bool, true, Ok, Err, Option, append-nil, append_assoc}
 use Rattle.std.specs.Prelude.{Result, IsErr}
 use Rattle.std.specs.Io.KnownBytes.{append_known}
+use Rattle.dcm_lemmas.proofs.Truth.{false_true}
 use Rattle.dcm_lemmas.proofs.Options.{known_nothing, known_twice}
-use Rattle.dcm_devices.specs.Device.{AppendsFront, Puts}
+use Rattle.dcm_devices.specs.Device.{AppendsFront, Puts, Tells}
 use Rattle.dcm_devices.specs.Writing.{Writer, Wrote}
 use Rattle.dcm_devices.proofs.Writes.Puts.{puts_behind, puts_err, front_longer}
 
@@ -41,8 +42,30 @@ last_out {T} {E} {old} {mid} {all} {rest} new r s put =
 pub wrote_as : {W T E : Type 0} {w : Writer W} {old new : W} {all : List ℕ} {r : Result T E} (same : List ℕ) → all ≡ same → Wrote w old new all r → Wrote w old new same r
 wrote_as {W} {T} {E} {w} {old} {new} {all} {r} same e h = subst (λ (x : List ℕ). Wrote {T = T} {E = E} w old new x r) e h
 
+-- ---- two parts, one after another
+
+pub failed_first : {W T E : Type 0} {w : Writer W} {old new : W} {first : List ℕ} (second : List ℕ) (r : Result T E) → IsErr r → AppendsFront (w.contents old) (w.contents new) first → w.has_failed new ≡ true → Wrote w old new (first ++ second) r
+failed_first second (Err x) failed front told = record { bytes = front_longer second front; failed = told }
+failed_first second (Ok x) failed front told = absurd (false_true failed)
+
+pub both_out : {W T E : Type 0} {w : Writer W} {old mid new : W} (first : List ℕ) {second : List ℕ} {r : Result T E} → w.contents mid ≡ append_known (w.contents old) first → w.has_failed mid ≡ w.has_failed old → Wrote w mid new second r → Wrote w old new (first ++ second) r
+both_out {W} {T} {E} {w} {old} {mid} {new} first {second} {r} out same h = record {
+  bytes = puts_behind (w.contents old) (w.contents mid) (w.contents new) first second r out h.bytes;
+  failed = tells_behind (w.has_failed old) (w.has_failed mid) (w.has_failed new) r same h.failed;
+}
+  where
+    tells_behind : (old mid new : Bool) (r : Result T E) → mid ≡ old → Tells mid new r → Tells old new r
+    tells_behind old mid new (Ok x) e h = h ∙ e
+    tells_behind old mid new (Err x) e h = h
+
 -- ---- lists
 
 pub nothing_left : (bytes : List ℕ) → length bytes ≡ 0 → bytes ≡ []
 nothing_left [] e = refl
 nothing_left (b ∷ bs) e = absurd (omega (arith, e))
+
+pub one_left : (n i : ℕ) → i < n → replicate {A = ℕ} (n - i) 32 ≡ 32 ∷ replicate {A = ℕ} (n - (i + 1)) 32
+one_left n i h = let e : n - i ≡ suc (n - (i + 1)) = omega (arith, h) in ap (λ (k : ℕ). replicate {A = ℕ} k 32) e
+
+pub none_left : (n i : ℕ) → n ≤ i → replicate {A = ℕ} (n - i) 32 ≡ []
+none_left n i h = let e : n - i ≡ 0 = omega (arith, h) in ap (λ (k : ℕ). replicate {A = ℕ} k 32) e

@@ -1,2 +1,6 @@
 pub mod Escaped
+pub mod Shape
+pub mod NumberText
+pub mod Values
+pub mod Texts
 pub mod Laws

@@ -5,5 +5,11 @@
 
 mod escaped;
 pub mod laws;
+mod number_text;
+mod shape;
+mod values;
 
 pub use escaped::put_escaped;
+pub use number_text::is_number_of;
+pub use shape::{Group, TextShape, shape_of};
+pub use values::Values;
