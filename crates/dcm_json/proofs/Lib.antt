@@ -2,3 +2,9 @@ pub mod PlainFronts
 pub mod Escapes
 pub mod Written
 pub mod Numbers
+pub mod PartLists
+pub mod NameSteps
+pub mod TextSteps
+pub mod ValuesLaw
+pub mod TokenTexts
+pub mod PartsAreValues
