@@ -8,3 +8,4 @@ pub mod TextSteps
 pub mod ValuesLaw
 pub mod TokenTexts
 pub mod PartsAreValues
+pub mod Decoding

@@ -1,16 +1,16 @@
 -- Names that are written part by part: what is left to write of one, from any place within it.
-use Rattle.std.proofs.Common.{◌≡◌, ◌∙◌, ℕ, zero, suc, ◌+◌, ◌==◌, ◌&&◌, Bool, true, false, not, List, [], ◌∷◌, ◌++◌, replicate, refl, sym, subst, ap, ap₂, arith, append_assoc, append-nil, Option, Some, None}
+use Rattle.std.proofs.Common.{◌≡◌, ◌∙◌, ℕ, ◌&&◌, Bool, true, false, not, List, [], ◌∷◌, ◌++◌, replicate, refl, sym, subst, ap, ap₂, append_assoc, append-nil, Some, None}
 use Rattle.std.specs.Prelude.{if◌then◌else◌, flat_map, codes}
-use Rattle.std.specs.List.{concat, before_first, after_first}
+use Rattle.std.specs.List.{before_first, after_first}
 use Rattle.dcm_lemmas.proofs.Truth.{and_false, and_first, and_second, false_true}
-use Rattle.dcm_lemmas.proofs.Choice.{if_false, if_true}
+use Rattle.dcm_lemmas.proofs.Choice.{if_false}
 use Rattle.json.specs.Print.{escape}
 use Rattle.dcm_json.specs.declared.shape.TextShape.{TextShape}
 use Rattle.dcm_json.specs.declared.shape.TextShape.TheVariants.{Names}
 use Rattle.dcm_json.specs.declared.shape.Group.{Group}
 use Rattle.dcm_json.specs.declared.shape.Group.TheVariants.{Alphabetic, Ideographic, Phonetic}
 use Rattle.dcm_json.specs.Shape.{next_group}
-use Rattle.dcm_json.specs.Values.{Values, before, group_behind, group_opening, in_group, is_blank, is_empty, is_one, name_opening, opened, shown, shown_writes, spaced, step, string_end, value_end, writes}
+use Rattle.dcm_json.specs.Values.{Values, before, group_behind, group_opening, is_blank, is_empty, is_one, shown, shown_writes, step, string_end, value_end, writes}
 use Rattle.dcm_json.specs.Texts.{Parts, is_backslash, is_equals, is_space, text_of}
 use Rattle.dcm_json.proofs.PartLists.{waiting, one_is, one_more_waits, text_behind, no_text, not_empty, escaped_behind, before_more, behind_more, before_with_spaces, behind_with_spaces}
 

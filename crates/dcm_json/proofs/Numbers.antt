@@ -1,6 +1,6 @@
 -- Texts of numbers.
-use Rattle.std.proofs.Common.{◌≡◌, ◌<◌, arith, refl, true, ℕ, Bool, List, [], ◌∷◌, IsUtf8}
-use Rattle.std.specs.Prelude.{nat_lt, nat_le, ◌&&◌, ◌||◌, ◌==◌}
+use Rattle.std.proofs.Common.{◌≡◌, arith, refl, true, ℕ, List, [], ◌∷◌, IsUtf8}
+use Rattle.std.specs.Prelude.{nat_lt}
 use Rattle.std.specs.List.{list_all}
 use Rattle.std.proofs.lemmas.Bool.Decides.{nat_tests}
 use Rattle.dcm_lemmas.proofs.Truth.{and_both, and_first, and_second}

@@ -1,9 +1,8 @@
 -- Parts of a text: spaces that wait before more, and what stands before and behind a `=`.
-use Rattle.std.proofs.Common.{◌≡◌, ◌∙◌, ℕ, zero, suc, ◌+◌, ◌==◌, Bool, true, false, not, cond, List, [], ◌∷◌, ◌++◌, replicate, take, drop, refl, sym, ap, ap₂, arith, append_assoc}
-use Rattle.std.specs.Prelude.{if◌then◌else◌, flat_map}
+use Rattle.std.proofs.Common.{◌≡◌, ◌∙◌, ℕ, zero, suc, ◌+◌, Bool, true, false, not, cond, List, [], ◌∷◌, ◌++◌, replicate, take, drop, refl, ap, ap₂, arith}
 use Rattle.std.specs.List.{concat, before_first, after_first, position_or_len}
 use Rattle.std.proofs.lemmas.Grind.{flat_map-append}
-use Rattle.dcm_lemmas.proofs.Choice.{if_false, if_true}
+use Rattle.dcm_lemmas.proofs.Choice.{if_false}
 use Rattle.dcm_lemmas.proofs.Numbers.{equal_numbers}
 use Rattle.json.specs.Print.{escape, escape_byte}
 use Rattle.dcm_json.specs.Values.{is_empty, is_one}

@@ -1,18 +1,17 @@
 -- What is written of a text part by part is the text of the tokens of its values.
-use Rattle.std.proofs.Common.{◌≡◌, ◌∙◌, ℕ, ◌&&◌, ◌||◌, Bool, true, false, not, List, [], ◌∷◌, ◌++◌, map, refl, sym, subst, ap, ap₂, append_assoc}
+use Rattle.std.proofs.Common.{◌≡◌, ◌∙◌, ℕ, ◌&&◌, Bool, true, false, not, List, [], ◌∷◌, ◌++◌, map, refl, sym, ap, ap₂, append_assoc}
 use Rattle.std.specs.Prelude.{if◌then◌else◌, codes, flat_map}
 use Rattle.std.specs.List.{concat, list_all, slice_split}
 use Rattle.dcm_lemmas.proofs.Truth.{and_true, false_true}
 use Rattle.dcm_lemmas.proofs.Choice.{if_false, if_true}
-use Rattle.json.specs.Token.{Token}
 use Rattle.json.specs.Print.{print_from}
 use Rattle.dcm_json.specs.declared.shape.TextShape.{TextShape}
 use Rattle.dcm_json.specs.declared.shape.TextShape.TheVariants.{Strings, OneString, Decimals, Integers, Names}
 use Rattle.dcm_json.specs.declared.shape.Group.TheVariants.{Alphabetic}
 use Rattle.dcm_json.specs.Shape.{is_cut, is_names, is_numeric}
-use Rattle.dcm_json.specs.Values.{Values, all_writes, before, blank, is_blank, is_empty, null_or_digits, step, value_end, writes}
+use Rattle.dcm_json.specs.Values.{Values, all_writes, before, blank, is_empty, null_or_digits}
 use Rattle.dcm_json.specs.Texts.{Parts, array_of, is_backslash, is_null, member_of, tokens_by, value_tokens, values_tokens, without_spaces}
-use Rattle.dcm_json.proofs.NameSteps.{IsName, enclosed, is_no_name, left_of_name, name_end, name_nothing, name_step, no_texts, texts_from}
+use Rattle.dcm_json.proofs.NameSteps.{IsName, enclosed, is_no_name, left_of_name, name_end, name_nothing, name_step, texts_from}
 use Rattle.dcm_json.proofs.TextSteps.{IsText, is_no_text, left_of_text, text_end, text_nothing, text_step}
 use Rattle.dcm_json.proofs.ValuesLaw.{OneEnd, OneStep, all_left, all_of_it, is_lone, never_none, others, same_shape}
 use Rattle.dcm_json.proofs.TokenTexts.{null_name, null_text, print_array, value_text}

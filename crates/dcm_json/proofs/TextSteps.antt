@@ -1,12 +1,12 @@
 -- Values that are no names, written part by part: what is left to write of one, from any place within it.
-use Rattle.std.proofs.Common.{◌≡◌, ◌∙◌, ℕ, zero, suc, ◌+◌, ◌≤◌, ◌==◌, ◌&&◌, ◌||◌, Bool, true, false, not, List, [], ◌∷◌, ◌++◌, replicate, length, refl, sym, subst, ap, ap₂, arith, append_assoc, append-nil, Option, Some, None}
-use Rattle.std.specs.Prelude.{if◌then◌else◌, codes, nat_le}
+use Rattle.std.proofs.Common.{◌≡◌, ◌∙◌, ℕ, zero, suc, ◌+◌, ◌≤◌, ◌==◌, ◌&&◌, Bool, true, false, not, List, [], ◌∷◌, ◌++◌, replicate, length, refl, sym, subst, ap, ap₂, arith, append_assoc, append-nil, None}
+use Rattle.std.specs.Prelude.{codes, nat_le}
 use Rattle.std.specs.List.{concat, list_all}
 use Rattle.std.proofs.lemmas.Bool.Decides.{nat_tests}
 use Rattle.std.proofs.lemmas.Grind.{flat_map-append}
 use Rattle.std.proofs.lemmas.List.{length-append}
 use Rattle.dcm_lemmas.proofs.Truth.{and_false, and_true, and_first, and_second, and_first_false, and_second_false}
-use Rattle.dcm_lemmas.proofs.Choice.{if_false, if_true}
+use Rattle.dcm_lemmas.proofs.Choice.{if_false}
 use Rattle.dcm_lemmas.proofs.Numbers.{equal_numbers}
 use Rattle.dcm_value.proofs.Displays.TextLanes.{all_append}
 use Rattle.json.specs.Word.{after_number}
@@ -14,9 +14,9 @@ use Rattle.json.specs.Print.{escape, escape_byte, quoted}
 use Rattle.dcm_json.specs.declared.shape.TextShape.{TextShape}
 use Rattle.dcm_json.specs.declared.shape.TextShape.TheVariants.{Strings, OneString, Decimals, Integers, Names}
 use Rattle.dcm_json.specs.declared.shape.Group.{Group}
-use Rattle.dcm_json.specs.NumberText.{MOST_OF_NUMBER, exponent, is_at_end, is_number, is_of_integer, is_of_number}
-use Rattle.dcm_json.specs.Shape.{is_cut, is_names, is_numeric, next_group}
-use Rattle.dcm_json.specs.Values.{Values, before, digits_text, group_behind, is_blank, is_empty, is_one, may_be_number, null_or_digits, opened, plain_step, plain_writes, shown, shown_writes, spaced, step, value_end, writes}
+use Rattle.dcm_json.specs.NumberText.{exponent, is_at_end, is_number, is_of_integer, is_of_number}
+use Rattle.dcm_json.specs.Shape.{is_cut, is_names, is_numeric}
+use Rattle.dcm_json.specs.Values.{Values, before, digits_text, group_behind, is_blank, is_empty, may_be_number, null_or_digits, plain_step, plain_writes, shown, shown_writes, step, value_end, writes}
 use Rattle.dcm_json.specs.Texts.{Parts, is_backslash, is_space, text_of, without_end_spaces, without_first_spaces, without_spaces}
 use Rattle.dcm_json.proofs.PartLists.{waiting, one_is, one_more_waits, text_behind, no_text, not_empty, escaped_behind}
 

@@ -1,19 +1,19 @@
 -- The text of the tokens of values.
-use Rattle.std.proofs.Common.{◌≡◌, ◌∙◌, ℕ, ◌&&◌, Bool, true, false, not, cond, List, [], ◌∷◌, ◌++◌, map, refl, sym, ap, ap₂, append_assoc, append-nil}
+use Rattle.std.proofs.Common.{◌≡◌, ◌∙◌, ℕ, Bool, true, false, cond, List, [], ◌∷◌, ◌++◌, map, refl, sym, ap, ap₂, append_assoc}
 use Rattle.std.specs.Prelude.{if◌then◌else◌, codes, flat_map}
 use Rattle.std.specs.List.{concat, before_first, after_first}
 use Rattle.std.proofs.lemmas.Grind.{flat_map-append}
 use Rattle.dcm_lemmas.proofs.Truth.{and_true}
-use Rattle.json.specs.Token.{Token, begin_object, end_object, begin_array, end_array, key, string, number, null}
+use Rattle.json.specs.Token.{Token, end_object, end_array, key, string, number, null}
 use Rattle.json.specs.Print.{escape, escape_byte, print_from, quoted}
 use Rattle.dcm_json.specs.declared.shape.TextShape.{TextShape}
 use Rattle.dcm_json.specs.declared.shape.Group.{Group}
 use Rattle.dcm_json.specs.declared.shape.Group.TheVariants.{Alphabetic, Ideographic, Phonetic}
 use Rattle.dcm_json.specs.NumberText.{is_number}
 use Rattle.dcm_json.specs.Shape.{group_key, is_names, is_numeric}
-use Rattle.dcm_json.specs.Values.{digits_text, group_opening, is_empty, null_or_digits}
-use Rattle.dcm_json.specs.Texts.{Parts, array_of, group_member, is_equals, is_null, name_members, name_of, text_of, text_token, tokens_by, value_tokens, without_spaces}
-use Rattle.dcm_json.proofs.NameSteps.{commas, enclosed, member_text, no_texts, texts_from}
+use Rattle.dcm_json.specs.Values.{group_opening, is_empty, null_or_digits}
+use Rattle.dcm_json.specs.Texts.{Parts, array_of, is_equals, is_null, name_members, name_of, text_of, text_token, tokens_by, value_tokens, without_spaces}
+use Rattle.dcm_json.proofs.NameSteps.{commas, enclosed, no_texts, texts_from}
 
 -- a comma stands behind another value
 abbrev pub comma : Bool → List ℕ

@@ -1,5 +1,5 @@
 -- All values of a text: what is written of them part by part, by what is left of the value on its way.
-use Rattle.std.proofs.Common.{◌≡◌, ◌∙◌, ℕ, suc, ◌+◌, ◌&&◌, ◌||◌, Bool, true, false, not, cond, List, [], ◌∷◌, ◌++◌, length, refl, sym, subst, ap, ap₂, arith, append_assoc, Option, Some, None}
+use Rattle.std.proofs.Common.{◌≡◌, ◌∙◌, ℕ, ◌+◌, ◌&&◌, ◌||◌, Bool, true, false, not, cond, List, [], ◌∷◌, ◌++◌, length, refl, sym, ap, ap₂, arith, append_assoc, Option, Some, None}
 use Rattle.std.specs.Prelude.{if◌then◌else◌, codes, fold}
 use Rattle.std.specs.List.{list_all, slice_split, onto_first}
 use Rattle.std.proofs.lemmas.List.{length-append}
@@ -120,7 +120,6 @@ module _ (shape : TextShape) (left : Values → Parts → List ℕ) (nothing : V
       shows : is_empty x ≡ false
       shows = not_true (is_empty x) (and_first (not (is_empty x)) (list_all (λ x. not (is_empty x)) parts) h)
 
-
       at_cut : (e : cuts x ≡ true) → ((u : Values) → Fits u → written u parts ≡ all_left u (slice_split cuts parts)) → written v (x ∷ parts) ≡ all_left v ([] ∷ slice_split cuts parts)
       at_cut e rec =
           append_assoc (writes v x) (outputs step writes (step v x) parts) (value_end (fold step (step v x) parts) ++ codes "]")
@@ -164,7 +163,6 @@ module _ (shape : TextShape) (left : Values → Parts → List ℕ) (nothing : V
       shows : is_empty x ≡ false
       shows = not_true (is_empty x) (and_first (not (is_empty x)) (list_all (λ x. not (is_empty x)) parts) h)
 
-
       by_cut : (t : Bool) → cuts x ≡ t → ((u : Values) → Fits u → has_array (fold step u parts) ≡ (u.begun || not (is_lone u (slice_split cuts parts)))) → has_array (fold step (step v x) parts) ≡ (v.begun || not (is_lone v (slice_split cuts (x ∷ parts))))
       by_cut true e rec =
           ap (λ (u : Values). has_array (fold step u parts)) (ended_is v x f e)
@@ -188,7 +186,6 @@ module _ (shape : TextShape) (left : Values → Parts → List ℕ) (nothing : V
     where
       shows : is_empty x ≡ false
       shows = not_true (is_empty x) (and_first (not (is_empty x)) (list_all (λ x. not (is_empty x)) parts) h)
-
 
       split_by : Bool → List Parts
       split_by t = cond t ([] ∷ slice_split cuts parts) (onto_first x (slice_split cuts parts))

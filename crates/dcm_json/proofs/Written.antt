@@ -23,6 +23,9 @@ one_more {old} {mid} {all} {rest} new more after s e g = record {
   grown = g ∙ ap (λ (k : Option (List ℕ)). append_known k more) s.grown ∙ known_twice old s.first more;
 }
 
+pub SoFar_of : {old now : Option (List ℕ)} {all rest same : List ℕ} → SoFar old now all rest → rest ≡ same → SoFar old now all same
+SoFar_of {old} {now} {all} {rest} {same} s e = subst (SoFar old now all) e s
+
 -- the next of them broke off
 pub next_failed : {T E : Type 0} {old mid : Option (List ℕ)} {all rest : List ℕ} (new : Option (List ℕ)) (more after : List ℕ) (r : Result T E) → SoFar old mid all rest → rest ≡ more ++ after → IsErr r → AppendsFront mid new more → Puts old new all r
 next_failed {T} {E} {old} {mid} {all} {rest} new more after r s e failed front =
@@ -47,6 +50,10 @@ wrote_as {W} {T} {E} {w} {old} {new} {all} {r} same e h = subst (λ (x : List �
 pub failed_first : {W T E : Type 0} {w : Writer W} {old new : W} {first : List ℕ} (second : List ℕ) (r : Result T E) → IsErr r → AppendsFront (w.contents old) (w.contents new) first → w.has_failed new ≡ true → Wrote w old new (first ++ second) r
 failed_first second (Err x) failed front told = record { bytes = front_longer second front; failed = told }
 failed_first second (Ok x) failed front told = absurd (false_true failed)
+
+pub failed_alone : {W T E : Type 0} {w : Writer W} {old new : W} {all : List ℕ} (r : Result T E) → IsErr r → AppendsFront (w.contents old) (w.contents new) all → w.has_failed new ≡ true → Wrote w old new all r
+failed_alone (Err x) failed front told = record { bytes = front; failed = told }
+failed_alone (Ok x) failed front told = absurd (false_true failed)
 
 pub both_out : {W T E : Type 0} {w : Writer W} {old mid new : W} (first : List ℕ) {second : List ℕ} {r : Result T E} → w.contents mid ≡ append_known (w.contents old) first → w.has_failed mid ≡ w.has_failed old → Wrote w mid new second r → Wrote w old new (first ++ second) r
 both_out {W} {T} {E} {w} {old} {mid} {new} first {second} {r} out same h = record {

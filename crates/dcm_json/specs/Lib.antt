@@ -3,4 +3,5 @@ pub mod Shape
 pub mod NumberText
 pub mod Values
 pub mod Texts
+pub mod TextState
 pub mod Laws

@@ -6,7 +6,7 @@ use Rattle.dcm_text.specs.declared.sets.Sets.{Sets}
 use Rattle.dcm_text.specs.Decoding.{decoded}
 use Rattle.dcm_text.specs.Shown.{cell_piece}
 use Rattle.dcm_value.specs.DecodedProgress.{kind_of, sets_for}
-use Rattle.json.specs.Token.{Token, begin_object, end_object, begin_array, end_array, key, string, number, boolean, null, bad}
+use Rattle.json.specs.Token.{Token, begin_object, end_object, begin_array, end_array, key, string, number, null}
 use Rattle.dcm_json.specs.declared.shape.TextShape.{TextShape}
 use Rattle.dcm_json.specs.declared.shape.Group.{Group}
 use Rattle.dcm_json.specs.declared.shape.Group.TheVariants.{Alphabetic, Ideographic, Phonetic}

@@ -5,3 +5,8 @@ ghost use Rattle.dcm_json.specs.Laws as law;
 pub fn strings_in_pieces()
     ensures { law.StringsInPieces }
 {}
+
+/// The values of a text that comes in any pieces are written as those of the whole text.
+pub fn texts_in_pieces()
+    ensures { law.TextsInPieces }
+{}

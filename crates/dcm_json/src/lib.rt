@@ -1,15 +1,20 @@
 //! The DICOM JSON Model (PS3.18 annex F): an object of JSON (RFC 8259) for each DICOM file.
 //!
 //! - `put_escaped` writes bytes of a string, in any pieces.
+//! - `TextValue` writes the values of a text that comes in pieces: decoded by Specific Character Set (0008,0005), cut
+//!   at backslashes, names in groups, and numbers of DS and IS as numbers where JSON has them so. `shape_of` says how.
+//! - `Values` does so for what is shown of a text part by part.
 #![tactic(auto)]
 
 mod escaped;
 pub mod laws;
 mod number_text;
 mod shape;
+mod text_value;
 mod values;
 
 pub use escaped::put_escaped;
 pub use number_text::is_number_of;
 pub use shape::{Group, TextShape, shape_of};
+pub use text_value::TextValue;
 pub use values::Values;

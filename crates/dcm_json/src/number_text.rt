@@ -16,8 +16,7 @@ const MOST_OF_EXPONENT: usize = 2;
 pub fn are_of_number(text: &[u8]) -> bool
     ensures { result ≡ list_all spec.is_of_number text.now }
 {
-    text.iter()
-        .all(|byte| matches!(*byte, b'0'..=b'9' | b'-' | b'+' | b'.' | b'e' | b'E'))
+    text.iter().all(|byte| matches!(*byte, b'0'..=b'9' | b'-' | b'+' | b'.' | b'e' | b'E'))
 }
 
 /// Whether a text is a number of JSON.

@@ -1,5 +1,5 @@
 //! The values of a text, as their parts come.
-ghost use Rattle.std.specs.Prelude.{◌≡◌, ◌≤◌, ◌<◌, ◌^◌, ◌++◌, ◌&&◌, ◌==◌, ◌+◌, if◌then◌else◌, [], true, false, length, replicate, OnOk, codes};
+ghost use Rattle.std.specs.Prelude.{◌≡◌, ◌≤◌, ◌<◌, ◌^◌, ◌++◌, ◌&&◌, ◌==◌, ◌+◌, if◌then◌else◌, [], true, false, length, replicate, OnErr, OnOk, codes};
 ghost use Rattle.dcm_devices.specs.Writing.{Wrote};
 ghost use Rattle.json.specs.Print.{escape, quoted};
 ghost use Rattle.dcm_json.specs.Values as spec;
@@ -241,6 +241,7 @@ impl Values {
 
     /// Begins a string with a part.
     fn open<W: DeviceOut>(&mut self, part: &[u8], out: &mut Watched<W>) -> Result<(), WriteFailed>
+        ensures kept { OnErr result (self.new ≡ self.old) }
         ensures state { OnOk result (self.new ≡ spec.opened self.old) }
         ensures wrote { Wrote W.DeviceOut out.old out.new ((spec.opening self.old
             ++ escape self.old.digits) ++ (replicate self.old.spaces 32 ++ escape part.now)) result }
@@ -262,6 +263,7 @@ impl Values {
     /// Goes on with a string by a part.
     fn go_on<W: DeviceOut>(&mut self, part: &[u8], out: &mut Watched<W>) -> Result<(), WriteFailed>
         requires { self.old.is_open ≡ true }
+        ensures kept { OnErr result (self.new ≡ self.old) }
         ensures state { OnOk result (self.new ≡ record self.old { spaces = 0 }) }
         ensures wrote { Wrote W.DeviceOut out.old out.new (replicate self.old.spaces 32 ++ escape part.now) result }
     {
@@ -272,6 +274,7 @@ impl Values {
 
     /// After a part that shows something, and separates nothing.
     fn show<W: DeviceOut>(&mut self, part: &[u8], out: &mut Watched<W>) -> Result<(), WriteFailed>
+        ensures kept { OnErr result (self.new ≡ self.old) }
         ensures state { OnOk result (self.new ≡ spec.shown self.old part.now) }
         ensures wrote { Wrote W.DeviceOut out.old out.new (spec.shown_writes self.old part.now) result }
     {
@@ -320,6 +323,7 @@ impl Values {
         behind: Group,
         out: &mut Watched<W>,
     ) -> Result<(), WriteFailed>
+        ensures kept { OnErr result (self.new ≡ self.old) }
         ensures state { OnOk result (self.new ≡ spec.in_group self.old behind) }
         ensures wrote { Wrote W.DeviceOut out.old out.new (spec.string_end self.old.is_open) result }
     {
@@ -345,6 +349,7 @@ impl Values {
 
     /// After the end of a value, where another begins.
     fn end_value<W: DeviceOut>(&mut self, out: &mut Watched<W>) -> Result<(), WriteFailed>
+        ensures kept { OnErr result (self.new ≡ self.old) }
         ensures state { OnOk result (self.new ≡ spec.ended self.old) }
         ensures wrote { Wrote W.DeviceOut out.old out.new (spec.value_end self.old) result }
     {
@@ -365,6 +370,7 @@ impl Values {
         out: &mut Watched<W>,
     ) -> Result<(), WriteFailed>
         requires { self.old.spaces + 1 < 2 ^ 64 }
+        ensures kept { OnErr result (self.new ≡ self.old) }
         ensures state { OnOk result (self.new ≡ spec.plain_step self.old part.now) }
         ensures wrote { Wrote W.DeviceOut out.old out.new (spec.plain_writes self.old part.now) result }
     {
@@ -386,6 +392,7 @@ impl Values {
         out: &mut Watched<W>,
     ) -> Result<(), WriteFailed>
         requires { self.old.spaces + 1 < 2 ^ 64 }
+        ensures kept { OnErr result (self.new ≡ self.old) }
         ensures state { OnOk result (self.new ≡ spec.step self.old part.now) }
         ensures wrote { Wrote W.DeviceOut out.old out.new (spec.writes self.old part.now) result }
     {

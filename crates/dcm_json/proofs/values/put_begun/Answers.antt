@@ -1,4 +1,4 @@
-use Rattle.dcm_json.proofs.Written.{both_out, failed_first}
+use Rattle.dcm_json.proofs.Written.{both_out}
 use Rattle.dcm_json.proofs.values.put_begun.Goals as goal
 
 pub returns : goal.returns
