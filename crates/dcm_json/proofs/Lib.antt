@@ -1,7 +1,8 @@
 pub mod PlainFronts
 pub mod Escapes
 pub mod Written
-pub mod Numbers
+pub mod NumberTexts
+pub mod FloatTexts
 pub mod PartLists
 pub mod NameSteps
 pub mod TextSteps

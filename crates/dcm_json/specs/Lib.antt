@@ -4,4 +4,5 @@ pub mod NumberText
 pub mod Values
 pub mod Texts
 pub mod TextState
+pub mod Numbers
 pub mod Laws

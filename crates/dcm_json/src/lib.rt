@@ -9,12 +9,14 @@
 mod escaped;
 pub mod laws;
 mod number_text;
+mod numbers;
 mod shape;
 mod text_value;
 mod values;
 
 pub use escaped::put_escaped;
 pub use number_text::is_number_of;
+pub use numbers::put_unit;
 pub use shape::{Group, TextShape, shape_of};
 pub use text_value::TextValue;
 pub use values::Values;

@@ -58,7 +58,7 @@ fn is_one(character: u8, part: &[u8]) -> bool
 }
 
 /// What stands before a value: the beginning of the array before the first.
-fn before(begun: bool) -> &'static [u8]
+pub(crate) fn before(begun: bool) -> &'static [u8]
     ensures { result.now ≡ spec.before begun }
 {
     if begun { b"," } else { b",\"Value\":[" }
@@ -158,7 +158,7 @@ fn put_closed<W: DeviceOut>(bytes: &[u8], out: &mut Watched<W>) -> Result<(), Wr
 }
 
 /// Writes a string.
-fn put_string<W: DeviceOut>(bytes: &[u8], out: &mut Watched<W>) -> Result<(), WriteFailed>
+pub(crate) fn put_string<W: DeviceOut>(bytes: &[u8], out: &mut Watched<W>) -> Result<(), WriteFailed>
     ensures { Wrote W.DeviceOut out.old out.new (quoted bytes.now) result }
 {
     put_all(out, b"\"")?;

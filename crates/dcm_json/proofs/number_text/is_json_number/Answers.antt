@@ -1,5 +1,5 @@
 use Rattle.std.proofs.Common.{sym}
-use Rattle.dcm_json.proofs.Numbers.{numbers_are_utf8}
+use Rattle.dcm_json.proofs.NumberTexts.{numbers_are_utf8}
 use Rattle.dcm_json.proofs.number_text.is_json_number.Goals as goal
 
 pub returns-in-Err : goal.returns-in-Err
