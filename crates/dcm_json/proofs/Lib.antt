@@ -3,6 +3,7 @@ pub mod Escapes
 pub mod Written
 pub mod NumberTexts
 pub mod FloatTexts
+pub mod UnitPieces
 pub mod PartLists
 pub mod NameSteps
 pub mod TextSteps

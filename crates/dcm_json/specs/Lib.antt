@@ -5,4 +5,5 @@ pub mod Values
 pub mod Texts
 pub mod TextState
 pub mod Numbers
+pub mod NumberState
 pub mod Laws

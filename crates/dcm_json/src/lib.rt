@@ -9,6 +9,7 @@
 mod escaped;
 pub mod laws;
 mod number_text;
+mod number_value;
 mod numbers;
 mod shape;
 mod text_value;
@@ -16,6 +17,7 @@ mod values;
 
 pub use escaped::put_escaped;
 pub use number_text::is_number_of;
+pub use number_value::NumberValues;
 pub use numbers::put_unit;
 pub use shape::{Group, TextShape, shape_of};
 pub use text_value::TextValue;
