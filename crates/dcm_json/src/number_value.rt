@@ -87,6 +87,24 @@ fn put_units<W: DeviceOut>(
     Ok(stands)
 }
 
+/// Writes the whole units of some bytes and of others behind them, and says whether a value stands then.
+fn put_both<W: DeviceOut>(
+    begun: bool,
+    vr: Vr,
+    syntax: Syntax,
+    first: &[u8],
+    others: &[u8],
+    out: &mut Watched<W>,
+) -> Result<bool, WriteFailed>
+    ensures stands { IfOk result (λ stands. stands ≡ spec.stands begun
+        (units_of (unit_size vr) first.now ++ units_of (unit_size vr) others.now)) }
+    ensures wrote { WroteParts W.DeviceOut out.old out.new (spec.units_parts vr syntax begun
+        (units_of (unit_size vr) first.now ++ units_of (unit_size vr) others.now)) result }
+{
+    let stands = put_units(begun, vr, syntax, first, out)?;
+    put_units(stands, vr, syntax, others, out)
+}
+
 impl NumberValues {
     /// Before a value of this representation, in this syntax.
     pub fn new(vr: Vr, syntax: Syntax) -> NumberValues
@@ -98,6 +116,21 @@ impl NumberValues {
             begun: false,
             held: UnitBuffer::new(),
         }
+    }
+
+    /// Writes the units that bytes more make whole. Fails where the writer fails, which has then taken a beginning.
+    pub fn feed<W: DeviceOut>(
+        &mut self,
+        bytes: &[u8],
+        out: &mut Watched<W>,
+    ) -> Result<(), WriteFailed>
+        ensures state { OnOk result (self.new ≡ spec.fed self.old bytes.now) }
+        ensures wrote { WroteParts W.DeviceOut out.old out.new (spec.feeds self.old bytes.now) result }
+    {
+        let units = self.held.feed(shown_unit(self.vr), bytes);
+        let first = units.first.as_slice();
+        self.begun = put_both(self.begun, self.vr, self.syntax, first, units.others, out)?;
+        Ok(())
     }
 
     /// Writes the end of the array, where there is a value: bytes behind the last whole unit are left out. Fails where
