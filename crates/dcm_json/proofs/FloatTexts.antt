@@ -1,6 +1,6 @@
 -- Floats and other units, as they are written.
-use Rattle.std.proofs.Common.{◌≡◌, ◌≢◌, ◌∙◌, sym, ap, refl, subst, ℕ, ◌≤◌, Bool, true, false, List, [], ◌∷◌, length, Option, Some}
-use Rattle.std.specs.Prelude.{if◌then◌else◌, IsTrue, IsFalse, IsAscii, from_bits, Result}
+use Rattle.std.proofs.Common.{◌≡◌, ◌≢◌, ◌∙◌, sym, ap, refl, subst, ℕ, ◌≤◌, true, false, List, [], ◌∷◌, length, Option, Some}
+use Rattle.std.specs.Prelude.{IsTrue, IsFalse, IsAscii, from_bits, Result}
 use Rattle.std.specs.Float.{float_is_finite}
 use Rattle.std.specs.Float.Ieee.{Float}
 use Rattle.ryu.specs.Parse.{parse_float}

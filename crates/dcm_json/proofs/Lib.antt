@@ -4,6 +4,7 @@ pub mod Written
 pub mod NumberTexts
 pub mod FloatTexts
 pub mod UnitPieces
+pub mod NumberPieces
 pub mod PartLists
 pub mod NameSteps
 pub mod TextSteps

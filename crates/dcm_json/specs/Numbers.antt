@@ -1,11 +1,12 @@
 -- Numbers and tags as JSON has them (PS3.5 6.2, PS3.18 F.2.3).
-use Rattle.std.specs.Prelude.{ℕ, ◌+◌, ◌-◌, ◌*◌, ◌/◌, ◌%◌, ◌^◌, nat_le, Bool, true, false, ◌||◌, not, if◌then◌else◌, List, [], ◌∷◌, ◌++◌, length, take, drop, flat_map, from_bits, codes}
+use Rattle.std.specs.Prelude.{ℕ, ◌-◌, ◌/◌, ◌%◌, ◌^◌, nat_le, Bool, true, ◌||◌, if◌then◌else◌, List, [], ◌∷◌, ◌++◌, take, drop, flat_map, map, from_bits, codes}
 use Rattle.std.specs.Float.{float_is_finite}
 use Rattle.ryu.specs.Plain.{word_of}
+use Rattle.dcm_base.specs.declared.syntax.Syntax.{Syntax}
 use Rattle.dcm_base.specs.declared.vr.Vr.{Vr}
 use Rattle.dcm_base.specs.declared.vr.Vr.TheVariants.{AT, FD, FL, SV, UV}
-use Rattle.dcm_base.specs.Dump.ValueText.{shape, unit_text, upper}
-use Rattle.dcm_base.specs.Tree.Value.{number_of}
+use Rattle.dcm_base.specs.Dump.ValueText.{shape, shown_unit, unit_text, upper}
+use Rattle.dcm_base.specs.Tree.Value.{number_of, order, units}
 use Rattle.dcm_table.specs.Parts.{Part, Width, a_float, double, format_of, single, some_bytes}
 use Rattle.json.specs.Print.{quoted}
 
@@ -51,3 +52,18 @@ unit_part FL unit = float_part single (number_of unit)
 unit_part FD unit = float_part double (number_of unit)
 unit_part AT unit = some_bytes (quoted (tag_digits unit))
 unit_part vr unit = some_bytes (integer_text vr unit)
+
+-- ---- all units of a value
+
+abbrev pub next_value : Vr → List ℕ → List Part
+next_value vr unit = some_bytes (codes ",") ∷ unit_part vr unit ∷ []
+
+-- the values of an element, each a unit in little endian order; nothing without a whole unit
+abbrev pub values_parts : Vr → List (List ℕ) → List Part
+values_parts vr [] = []
+values_parts vr (unit ∷ others) = some_bytes (codes ",\"Value\":[") ∷ unit_part vr unit
+    ∷ (flat_map (next_value vr) others ++ some_bytes (codes "]") ∷ [])
+
+-- bytes behind the last whole unit are left out
+abbrev pub number_parts : Syntax → Vr → List ℕ → List Part
+number_parts s vr value = values_parts vr (map (order s vr) (units (shown_unit vr) value))

@@ -10,3 +10,8 @@ pub fn strings_in_pieces()
 pub fn texts_in_pieces()
     ensures { law.TextsInPieces }
 {}
+
+/// The values of numbers and tags that come in any pieces are written as the whole units of all of them.
+pub fn numbers_in_pieces()
+    ensures { law.NumbersInPieces }
+{}

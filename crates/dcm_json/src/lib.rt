@@ -3,7 +3,8 @@
 //! - `put_escaped` writes bytes of a string, in any pieces.
 //! - `TextValue` writes the values of a text that comes in pieces: decoded by Specific Character Set (0008,0005), cut
 //!   at backslashes, names in groups, and numbers of DS and IS as numbers where JSON has them so. `shape_of` says how.
-//! - `Values` does so for what is shown of a text part by part.
+//! - `NumberValues` writes the values of numbers and tags that come in pieces, and `put_unit` writes one of them.
+//! - `Values` does for what is shown of a text, part by part, what `TextValue` does for its bytes.
 #![tactic(auto)]
 
 mod escaped;

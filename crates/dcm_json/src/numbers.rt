@@ -78,11 +78,7 @@ fn is_exact(vr: Vr, unit: &[u8]) -> bool
 }
 
 /// Writes an integer, as a string where readers do not hold it exactly.
-fn put_integer<W: DeviceOut>(
-    vr: Vr,
-    unit: &[u8],
-    out: &mut Watched<W>,
-) -> Result<(), WriteFailed>
+fn put_integer<W: DeviceOut>(vr: Vr, unit: &[u8], out: &mut Watched<W>) -> Result<(), WriteFailed>
     requires { length unit.now ≡ shown_unit vr }
     ensures { Wrote W.DeviceOut out.old out.new (spec.integer_text vr unit.now) result }
 {
@@ -126,11 +122,7 @@ fn tag_digits(unit: &[u8]) -> [u8; 8]
 
 /// Writes a whole unit of numbers or tags, which is in little endian order: as a number, or as a string where it is a
 /// tag, or no number that all readers hold. Fails where the writer fails, which has then taken a beginning.
-pub fn put_unit<W: DeviceOut>(
-    vr: Vr,
-    unit: &[u8],
-    out: &mut Watched<W>,
-) -> Result<(), WriteFailed>
+pub fn put_unit<W: DeviceOut>(vr: Vr, unit: &[u8], out: &mut Watched<W>) -> Result<(), WriteFailed>
     requires { length unit.now ≡ shown_unit vr }
     ensures { WroteParts W.DeviceOut out.old out.new (spec.unit_part vr unit.now ∷ []) result }
 {

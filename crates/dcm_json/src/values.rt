@@ -158,7 +158,10 @@ fn put_closed<W: DeviceOut>(bytes: &[u8], out: &mut Watched<W>) -> Result<(), Wr
 }
 
 /// Writes a string.
-pub(crate) fn put_string<W: DeviceOut>(bytes: &[u8], out: &mut Watched<W>) -> Result<(), WriteFailed>
+pub(crate) fn put_string<W: DeviceOut>(
+    bytes: &[u8],
+    out: &mut Watched<W>,
+) -> Result<(), WriteFailed>
     ensures { Wrote W.DeviceOut out.old out.new (quoted bytes.now) result }
 {
     put_all(out, b"\"")?;

@@ -1,4 +1,4 @@
-use Rattle.std.proofs.Common.{◌∙◌, sym}
+use Rattle.std.proofs.Common.{sym}
 use Rattle.dcm_table.specs.Parts.{single}
 use Rattle.dcm_json.proofs.FloatTexts.{finite_out, other_out}
 use Rattle.dcm_json.proofs.numbers.put_single.Goals as goal
