@@ -5,6 +5,7 @@ pub mod NumberTexts
 pub mod FloatTexts
 pub mod UnitPieces
 pub mod NumberPieces
+pub mod Groups
 pub mod PartLists
 pub mod NameSteps
 pub mod TextSteps

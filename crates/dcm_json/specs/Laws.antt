@@ -8,6 +8,9 @@ use Rattle.json.specs.Token.{string}
 use Rattle.json.specs.Print.{escape, print_from, token_text}
 use Rattle.dcm_base.specs.declared.syntax.Syntax.{Syntax}
 use Rattle.dcm_table.specs.Parts.{Part, some_bytes}
+use Rattle.base64.specs.Engines.{standard}
+use Rattle.base64.specs.GeneralPurpose.{encode_of}
+use Rattle.dcm_json.specs.Base64State as base64
 use Rattle.dcm_json.specs.Numbers.{number_parts}
 use Rattle.dcm_json.specs.NumberState as numbers
 use Rattle.dcm_json.specs.NumberState.{NumberState}
@@ -37,3 +40,9 @@ NumbersInPieces =
     (s : Syntax) (vr : Vr) (pieces : List (List ℕ))
     → outputs numbers.fed numbers.feeds (numbers.started vr s) pieces
     ++ end_parts (fold numbers.fed (numbers.started vr s) pieces) ≡ number_parts s vr (concat pieces)
+
+-- bytes that come in any pieces are written in base64 as all of them together
+abbrev pub Base64InPieces : Type 0
+Base64InPieces =
+    (pieces : List (List ℕ)) → outputs base64.fed base64.feeds [] pieces ++ base64.finishes (fold base64.fed [] pieces)
+    ≡ encode_of standard (concat pieces)

@@ -6,4 +6,5 @@ pub mod Texts
 pub mod TextState
 pub mod Numbers
 pub mod NumberState
+pub mod Base64State
 pub mod Laws

@@ -15,3 +15,8 @@ pub fn texts_in_pieces()
 pub fn numbers_in_pieces()
     ensures { law.NumbersInPieces }
 {}
+
+/// Bytes that come in any pieces are written in base64 as all of them together.
+pub fn base64_in_pieces()
+    ensures { law.Base64InPieces }
+{}
