@@ -1,0 +1,15 @@
+pub mod PlainFronts
+pub mod Escapes
+pub mod Written
+pub mod NumberTexts
+pub mod FloatTexts
+pub mod UnitPieces
+pub mod NumberPieces
+pub mod Groups
+pub mod PartLists
+pub mod NameSteps
+pub mod TextSteps
+pub mod ValuesLaw
+pub mod TokenTexts
+pub mod PartsAreValues
+pub mod Decoding

@@ -1,0 +1,10 @@
+pub mod Escaped
+pub mod Shape
+pub mod NumberText
+pub mod Values
+pub mod Texts
+pub mod TextState
+pub mod Numbers
+pub mod NumberState
+pub mod Base64State
+pub mod Laws
