@@ -9,3 +9,4 @@ pub mod Shown
 pub mod Kept
 pub mod Named
 pub mod Over
+pub mod RanBy

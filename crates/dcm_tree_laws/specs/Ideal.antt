@@ -1,7 +1,7 @@
 -- The ideal run: what a run over a tree leaves where each call succeeds that may. The tree is a list of names with what
 -- they come to. One after another is done upon what is in the folder of the outputs by then, and gets a row.
-use Rattle.std.specs.Prelude.{ℕ, ◌==◌, List, [], ◌∷◌, ◌++◌, Bool, true, false, ◌&&◌, Option, Some, None, bytes_eq, filter}
-use Rattle.std.specs.Prelude.{if◌then◌else◌}
+use Rattle.std.specs.Prelude.{ℕ, ◌==◌, List, [], ◌∷◌, ◌++◌, Bool, true, false, ◌&&◌, Option, Some, None, bytes_eq}
+use Rattle.std.specs.Prelude.{filter, if◌then◌else◌}
 use Rattle.dcm_walk.specs.Names.{is_slash}
 use Rattle.dcm_trees.specs.declared.fate.Fate.{Fate}
 use Rattle.dcm_trees.specs.declared.fate.Fate.TheVariants as fates
@@ -37,7 +37,8 @@ is_passed (Some no_file) = false
 -- so it is at each folder on the way to a relative name
 abbrev pub has_way : Outputs → (relative : List ℕ) → Bool
 has_way outputs [] = true
-has_way outputs (b ∷ bs) = (if is_slash b then is_passed (outputs []) else true) && has_way (λ rest. outputs (b ∷ rest)) bs
+has_way outputs (b ∷ bs) =
+    (if is_slash b then is_passed (outputs []) else true) && has_way (λ rest. outputs (b ∷ rest)) bs
 
 -- an output may come to be at a place; a file with these bytes is there; or it cannot be there
 pub data Place : Type 0 where

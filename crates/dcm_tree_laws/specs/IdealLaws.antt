@@ -1,12 +1,13 @@
 -- What holds of each ideal run: facts about lists.
-use Rattle.std.specs.Prelude.{◌≡◌, ◌≢◌, ◌⊎◌, ◌≤◌, ◌<◌, ℕ, List, [], ◌∷◌, ◌++◌, map, Bool, true, false, Option, Some, None, IsPermutation}
+use Rattle.std.specs.Prelude.{◌≡◌, ◌≢◌, ◌⊎◌, ◌≤◌, ◌<◌, ℕ, List, [], ◌∷◌, ◌++◌, map, Bool, true, false, Option}
+use Rattle.std.specs.Prelude.{Some, None, IsPermutation}
 use Rattle.dcm_trees.specs.declared.fate.Fate.{Fate}
 use Rattle.dcm_trees.specs.declared.fate.Fate.TheVariants.{There}
 use Rattle.dcm_trees.specs.Fate.{status}
 use Rattle.dcm_cli.specs.Status.{DONE}
-use Rattle.dcm_tree_laws.specs.Ideal.{Thing, a_file, Outputs, is_on_way, place_at, free, held, Output, nothing, an_output, Comes}
-use Rattle.dcm_tree_laws.specs.Ideal.{without, kept, named, Name, Became, ended, met, wrote, become, Row, outputs_after, rows_of}
-use Rattle.dcm_tree_laws.specs.Ideal.{outputs_after_all, rows_of_all, fate_of}
+use Rattle.dcm_tree_laws.specs.Ideal.{Thing, a_file, Outputs, is_on_way, place_at, free, held, Output, nothing}
+use Rattle.dcm_tree_laws.specs.Ideal.{an_output, Comes, without, kept, named, Name, Became, ended, met, wrote, become}
+use Rattle.dcm_tree_laws.specs.Ideal.{Row, outputs_after, rows_of, outputs_after_all, rows_of_all, fate_of}
 
 -- ---- lists
 
@@ -83,7 +84,8 @@ WrittenIsMade = (continues : Bool) (outputs : Outputs) (comes : Comes) (relative
 abbrev pub HasBytes : Outputs → (relative bytes : List ℕ) → Type 0
 HasBytes outputs relative bytes = place_at outputs relative ≡ held bytes
 
--- a name is done: nothing was to be done of it, or its output is there; in a run that goes on and keeps names, a file is
+-- a name is done: nothing was to be done of it, or its output is there; in a run that goes on and keeps names, a file
+-- is
 abbrev pub IsDone : (continues : Bool) → Outputs → Comes → Type 0
 IsDone continues after (without why) = status why ≡ DONE
 IsDone continues after (kept relative (nothing why)) =
@@ -188,4 +190,5 @@ abbrev pub NoNameFlows : Type 0
 NoNameFlows = (continues : Bool) (before : Outputs) (one other : List Name)
     → map (λ n. n.comes) one ≡ map (λ n. n.comes) other
     → (outputs_after continues before one ≡ outputs_after continues before other)
-    × (map (λ row. row.became) (rows_of continues before one) ≡ map (λ row. row.became) (rows_of continues before other))
+    × (map (λ row. row.became) (rows_of continues before one)
+    ≡ map (λ row. row.became) (rows_of continues before other))

@@ -29,3 +29,4 @@ pub mod Lines
 pub mod Ideal
 pub mod IdealLaws
 pub mod Ran
+pub mod RanLaws

@@ -1,5 +1,6 @@
 -- A run over a tree leaves what the ideal run leaves, where each call succeeds that may.
-use Rattle.std.specs.Prelude.{◌≡◌, ◌≢◌, ◌≤◌, ℕ, nat_le, length, List, [], ◌∷◌, ◌++◌, map, Bool, true, false, Option, Some, None, Ok}
+use Rattle.std.specs.Prelude.{◌≡◌, ◌≢◌, ◌≤◌, ℕ, nat_le, length, List, [], ◌∷◌, ◌++◌, map, Bool, true, false}
+use Rattle.std.specs.Prelude.{Option, Some, None, Ok}
 use Rattle.std.specs.Io.KnownBytes.{append_known}
 use Rattle.std.specs.Str.{IsUtf8}
 use Rattle.dcm_devices.specs.Writing.{Writer}
@@ -25,8 +26,9 @@ use Rattle.dcm_tree_laws.specs.Again.{OfAll}
 use Rattle.dcm_tree_laws.specs.Copies.{EndsUnnamed}
 use Rattle.dcm_tree_laws.specs.Determined.{FollowsLinks, ComesTo, FileEnd, was_done, no_job, EndsAs, working}
 use Rattle.dcm_tree_laws.specs.FileSystem.{FileSystem, Tree, Host, number_of, place_of, at_path}
-use Rattle.dcm_tree_laws.specs.Ideal.{Thing, a_file, a_folder, no_file, Outputs, is_on_way, has_way, Made, nothing, an_output}
-use Rattle.dcm_tree_laws.specs.Ideal.{Comes, without, kept, named, Name, Row, outputs_after, rows_of, share, fate_of, output_of}
+use Rattle.dcm_tree_laws.specs.Ideal.{Thing, a_file, a_folder, no_file, Outputs, is_on_way, has_way, Made, nothing}
+use Rattle.dcm_tree_laws.specs.Ideal.{an_output, Comes, without, kept, named, Name, Row, outputs_after, rows_of}
+use Rattle.dcm_tree_laws.specs.Ideal.{share, fate_of, output_of}
 use Rattle.dcm_tree_laws.specs.IdealLaws.{its_output}
 use Rattle.dcm_tree_laws.specs.Laws.{part_path}
 use Rattle.dcm_tree_laws.specs.Rows.{Visit}
@@ -47,8 +49,8 @@ made_by mode (was_done bytes verdict) = made_of mode bytes verdict
 made_by mode (no_job stop) = nothing fates.Refused
 
 -- by what is there: it is no file, or the index of a medium. In a run that keeps names it is a file at whose name no
--- output can be, since its path is too long; or a file that is read, and ends so. In one that does not, it is a file that
--- ends without a name; one whose instance has a path that is too long; or one that names this instance
+-- output can be, since its path is too long; or a file that is read, and ends so. In one that does not, it is a file
+-- that ends without a name; one whose instance has a path that is too long; or one that names this instance
 pub data NameComes {I O : Type 0} (h : Host I O) (keeps : Bool) (task : Task) (output : List ℕ) (t : Tree) (v : Visit)
     (comes : Comes) : Type 0 where
   comes_of_no_file : ((mode : ℕ) → v.what ≢ File mode) → comes ≡ without (what_fate v.what)
@@ -103,11 +105,12 @@ pub record Shows {I O : Type 0} (h : Host I O) (output : List ℕ) (is_spoken : 
   pub shown : (relative : List ℕ) → is_spoken relative ≡ true → has_way outputs relative ≡ true
       → ShowsThing t (at_path h t (below output relative)) (outputs relative)
 
--- the system tells apart the names that are spoken of: their paths are text, and those that are reached by folders alone
--- lead to places of their own, and not to that of the part
+-- the system tells apart the names that are spoken of: their paths are text, and those that are reached by folders
+-- alone lead to places of their own, and not to that of the part
 pub record TellsApart {I O : Type 0} (h : Host I O) (output part : List ℕ) (is_spoken : List ℕ → Bool)
     (outputs : Outputs) : Type 0 where
-  pub way : (relative folder : List ℕ) → is_spoken relative ≡ true → is_on_way folder relative ≡ true → is_spoken folder ≡ true
+  pub way : (relative folder : List ℕ) → is_spoken relative ≡ true → is_on_way folder relative ≡ true
+      → is_spoken folder ≡ true
   pub text : (relative : List ℕ) → is_spoken relative ≡ true → IsUtf8 (below output relative)
   pub apart : (one other : List ℕ) → is_spoken one ≡ true → is_spoken other ≡ true → has_way outputs one ≡ true
       → has_way outputs other ≡ true → one ≢ other → place_of h (below output one) ≢ place_of h (below output other)
@@ -122,8 +125,8 @@ SpeaksOf is_spoken n = (relative : List ℕ) → its_output n.comes ≡ Some rel
 
 -- a run was begun, visited these names in a folder or a list to the last one, and removed its part each time
 pub record Ran {I O W E : Type 0} (F : Type 0) (h : Host I O) (reader : Reader I) (output : Writer O) (m : Writer W)
-    (errors : Writer E) (run : TreeRun) (before : FileSystem) (visits : List Visit) (headed left : W) (after : FileSystem)
-    : Type 0 where
+    (errors : Writer E) (run : TreeRun) (before : FileSystem) (visits : List Visit) (headed left : W)
+    (after : FileSystem) : Type 0 where
   pub begun : Begun
   pub part_is : begun.part.items ≡ part_path run
   pub text : IsUtf8 (part_path run)
@@ -143,7 +146,8 @@ abbrev pub RunIsIdeal : {I O W E : Type 0} → (F : Type 0) → Reader I → Wri
 RunIsIdeal {I} {O} {W} {E} F reader output m errors =
     (h : Host I O) (run : TreeRun) (before : FileSystem) (visits : List Visit) (headed left : W) (after : FileSystem)
     (name_of : Visit → Name) (is_spoken : List ℕ → Bool) (outputs : Outputs) → TellsAll h output
-    → (run.options.keeps_names ≡ false → FollowsLinks h before.now) → Ran F h reader output m errors run before visits headed left after
+    → (run.options.keeps_names ≡ false → FollowsLinks h before.now)
+    → Ran F h reader output m errors run before visits headed left after
     → OfAll (λ v. IsName h run.options.keeps_names (task_of run.task) run.output.now before.now v (name_of v)) visits
     → OfAll (λ v. SpeaksOf is_spoken (name_of v)) visits
     → TellsApart h run.output.now (part_path run) is_spoken outputs

@@ -3,6 +3,7 @@ ghost use Rattle.dcm_tree_laws.specs.IdealLaws.{FreeIsWritten, NewIsContinued, N
 ghost use Rattle.dcm_tree_laws.specs.IdealLaws.{OutputsStay, SecondIsFirst, SharesAreOne, StatusSays, WrittenIsMade};
 ghost use Rattle.dcm_tree_laws.specs.IdealLaws.{WrittenIsThere};
 ghost use Rattle.dcm_tree_laws.specs.Ran.{RunIsIdeal};
+ghost use Rattle.dcm_tree_laws.specs.RanLaws.{NoNameShows, SecondRunIsFirst};
 
 use dcm_base::{DeviceIn, DeviceOut};
 
@@ -66,4 +67,17 @@ pub fn no_name_flows()
 /// what is written of a file has no more bytes than an input may have, and a path where no link is leads to one place.
 pub fn runs_are_ideal<I: DeviceIn, O: DeviceOut, W: DeviceOut, E: DeviceOut, F>()
     ensures run { RunIsIdeal F I.DeviceIn O.DeviceOut W.DeviceOut E.DeviceOut }
+{}
+
+/// A second run over a tree leaves the outputs as the first left them, and has its rows, but `there` for what that wrote.
+/// Both do the same into one folder, are of one share, go on with what is there, and visit the same names. Where names are
+/// kept, no other name comes to be at the name of a file that has no output, or on its way.
+pub fn second_runs_are_first<I: DeviceIn, O: DeviceOut, W: DeviceOut, E: DeviceOut, F>()
+    ensures run { SecondRunIsFirst F I.DeviceIn O.DeviceOut W.DeviceOut E.DeviceOut }
+{}
+
+/// Runs over two trees whose files come to the same, in the order of their walks, leave the same outputs. What a file that
+/// is named by UIDs comes to has no name of it.
+pub fn no_name_shows<I: DeviceIn, O: DeviceOut, W: DeviceOut, E: DeviceOut, F>()
+    ensures run { NoNameShows F I.DeviceIn O.DeviceOut W.DeviceOut E.DeviceOut }
 {}

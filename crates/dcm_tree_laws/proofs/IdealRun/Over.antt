@@ -29,7 +29,7 @@ use Rattle.dcm_tree_laws.specs.FileSystem.{FileSystem, Tree, Host, place_of, at_
 use Rattle.dcm_tree_laws.specs.Ideal.{Outputs, Comes, Name, Row, become, outputs_after, rows_of, share, fate_of, output_of}
 use Rattle.dcm_tree_laws.specs.Laws.{IsOutput, part_path}
 use Rattle.dcm_tree_laws.specs.Part.{LeavesPart}
-use Rattle.dcm_tree_laws.specs.Ran.{NameComes, comes_of_no_file, comes_of_index, kept_too_long, kept_file, unnamed_file, named_too_long, named_file, IsName, Shows, TellsApart, SpeaksOf, text_of, RunIsIdeal}
+use Rattle.dcm_tree_laws.specs.Ran.{NameComes, comes_of_no_file, comes_of_index, kept_too_long, kept_file, unnamed_file, named_too_long, named_file, IsName, Shows, TellsApart, SpeaksOf, Ran, text_of, RunIsIdeal}
 use Rattle.dcm_tree_laws.specs.Rows.{Visit, noted}
 use Rattle.dcm_tree_laws.specs.Single.{TellsAll}
 use Rattle.dcm_tree_laws.specs.Together.{IsRunOf, Visited, in_folder, in_list}
@@ -219,6 +219,18 @@ first_good h m name_of spoken outputs headed start from before quiet none same s
 
 -- ---- a run
 
+-- what it left, by how its names are done
+record LeftBy {I O W : Type 0} (h : Host I O) (m : Writer W) (name_of : Visit → Name) (spoken : List ℕ → Bool) (outputs : Outputs) (visits : List Visit) (headed left : W) (before after : Tree) (k : Manner) (number count : ℕ) : Type 0 where
+  ideal : IsIdeal h m k.output spoken k.continues outputs headed (names_in name_of number count visits) left after
+  keeps : KeepsAll h k.output before after
+  still : Still h k.part before after
+
+pub record RunLeft {I O W : Type 0} (h : Host I O) (m : Writer W) (run : TreeRun) (before : Tree) (visits : List Visit) (headed left : W) (after : Tree) (name_of : Visit → Name) (spoken : List ℕ → Bool) (outputs : Outputs) : Type 0 where
+  pub shows : Shows h run.output.now spoken after (outputs_after run.options.continues outputs (share run.options.part.number run.options.part.count (map name_of visits)))
+  pub rows : m.contents left ≡ append_known (m.contents headed) (text_of (rows_of run.options.continues outputs (share run.options.part.number run.options.part.count (map name_of visits))))
+  pub keeps : KeepsAll h run.output.now before after
+  pub still : Still h (part_path run) before after
+
 -- what is known of it, by how its names are done
 record Asked {I O : Type 0} (h : Host I O) (name_of : Visit → Name) (spoken : List ℕ → Bool) (outputs : Outputs) (visits : List Visit) (before : Tree) (k : Manner) : Type 0 where
   told : OfAll (IsTold h k before name_of spoken) visits
@@ -234,19 +246,21 @@ both_all A B (v ∷ visits) first second = ((first.0, second.0), both_all A B vi
 
 module _ {I O W E : Type 0} (F : Type 0) (h : Host I O) (r : Reader I) (w : Writer O) (m : Writer W) (e : Writer E) (tells : TellsAll h w) (name_of : Visit → Name) (spoken : List ℕ → Bool) (outputs : Outputs) (run : TreeRun) (before : FileSystem) (quiet : before.written ≡ None) (visits : List Visit) (headed left : W) (after : FileSystem) (gone : after.unremoved ≡ false) where
   abbrev by_manner : Manner → (number count : ℕ) → Type 0
-  by_manner k number count = IsIdeal h m k.output spoken k.continues outputs headed (names_in name_of number count visits) left after.now
+  by_manner k number count = LeftBy h m name_of spoken outputs visits headed left before.now after.now k number count
 
   of_run : IsRunOf run.options.keeps_names (task_of run.task) run.output.now run.options.part.number run.options.part.count run
   of_run = record { task_is = refl; output_is = refl; number_is = refl; count_is = refl; keeps_is = refl }
 
   -- by what its names share
-  as_run : (part : List ℕ) (shared : Shared) → Shares run part shared → by_manner (Of shared) shared.part.number shared.part.count → IsIdeal h m run.output.now spoken run.options.continues outputs headed (names_in name_of run.options.part.number run.options.part.count visits) left after.now
-  as_run part shared shares x =
+  as_run : (part : List ℕ) (shared : Shared) → part ≡ part_path run → Shares run part shared → by_manner (Of shared) shared.part.number shared.part.count → RunLeft h m run before.now visits headed left after.now name_of spoken outputs
+  as_run part shared part_is shares x =
+      let it : LeftBy h m name_of spoken outputs visits headed left before.now after.now _ run.options.part.number run.options.part.count =
       subst (λ (k : Manner). by_manner k run.options.part.number run.options.part.count) shares.manner
-      (subst (λ c. by_manner (Of shared) run.options.part.number c) (ap (λ p. p.count) shares.part_is) (subst (λ n. by_manner (Of shared) n shared.part.count) (ap (λ p. p.number) shares.part_is) x))
+      (subst (λ c. by_manner (Of shared) run.options.part.number c) (ap (λ p. p.count) shares.part_is) (subst (λ n. by_manner (Of shared) n shared.part.count) (ap (λ p. p.number) shares.part_is) x)) in
+      record { shows = it.ideal.shows; rows = it.ideal.rows; keeps = it.keeps; still = subst (λ y. Still h y before.now after.now) part_is it.still }
 
   visited_ideal : (begun : Begun) → begun.part.items ≡ part_path run → ((k : Manner) → k.keeps_names ≡ run.options.keeps_names → k.task ≡ task_of run.task → k.output ≡ run.output.now → k.part ≡ part_path run → Asked h name_of spoken outputs visits before.now k)
-      → Visited (working {F = F} h r w e) m run begun headed before visits left after → IsIdeal h m run.output.now spoken run.options.continues outputs headed (names_in name_of run.options.part.number run.options.part.count visits) left after.now
+      → Visited (working {F = F} h r w e) m run begun headed before visits left after → RunLeft h m run before.now visits headed left after.now name_of spoken outputs
   visited_ideal begun part_is asked (in_folder path opened from status to v walks stop) =
       let shared : Shared = v.start.shared in
       let is : Known shared run.options.keeps_names = known run.options.keeps_names (task_of run.task) run.output.now run.options.part.number run.options.part.count run of_run begun.part.items shared v.begins.shares part_is in
@@ -256,7 +270,11 @@ module _ {I O W E : Type 0} (F : Type 0) (h : Host I O) (r : Reader I) (w : Writ
       walks_do (Works {F = F} h) (only_quiet (Works {F = F} h) (works_quiet {F = F} h)) (StaysGood h m name_of spoken outputs shared headed before) (closed h m name_of spoken outputs shared headed before) (noted (visits_of (working {F = F} h r w e) m))
       (visits_good F h r w m e tells name_of spoken outputs shared is.number is.part_is a.text a.apart headed before a.none a.follows) path begun.number opened ((v.start, from), []) before v.walked ((v.last, v.told), visits) after walks
       (first_good h m name_of spoken outputs headed v.start from before quiet a.none (ap (λ p. p.manifest) v.begins.nothing) a.shows) in
-      as_run begun.part.items shared v.begins.shares (subst (λ y. IsIdeal h m (Of shared).output spoken (Of shared).continues outputs headed (names_in name_of shared.part.number shared.part.count visits) y after.now) (sym v.left_is) (good.ideal a.told stop gone))
+      as_run begun.part.items shared part_is v.begins.shares (record {
+        ideal = subst (λ y. IsIdeal h m (Of shared).output spoken (Of shared).continues outputs headed (names_in name_of shared.part.number shared.part.count visits) y after.now) (sym v.left_is) (good.ideal a.told stop gone);
+        keeps = good.keeps;
+        still = good.still;
+      })
   visited_ideal begun part_is asked (in_list list input from status to read v walks stop) =
       let shared : Shared = v.start.shared in
       let is : Known shared run.options.keeps_names = known run.options.keeps_names (task_of run.task) run.output.now run.options.part.number run.options.part.count run of_run begun.part.items shared v.begins.shares part_is in
@@ -266,7 +284,11 @@ module _ {I O W E : Type 0} (F : Type 0) (h : Host I O) (r : Reader I) (w : Writ
       lines_do (Works {F = F} h) (only_quiet (Works {F = F} h) (works_quiet {F = F} h)) (StaysGood h m name_of spoken outputs shared headed before) (closed h m name_of spoken outputs shared headed before) (noted (visits_of (working {F = F} h r w e) m))
       (visits_good F h r w m e tells name_of spoken outputs shared is.number is.part_is a.text a.apart headed before a.none a.follows) (as_whole h r).gets begun.number ((v.start, from), []) before input v.walked ((v.last, v.told), visits) after read walks
       (first_good h m name_of spoken outputs headed v.start from before quiet a.none (ap (λ p. p.manifest) v.begins.nothing) a.shows) in
-      as_run begun.part.items shared v.begins.shares (subst (λ y. IsIdeal h m (Of shared).output spoken (Of shared).continues outputs headed (names_in name_of shared.part.number shared.part.count visits) y after.now) (sym v.left_is) (good.ideal a.told stop gone))
+      as_run begun.part.items shared part_is v.begins.shares (record {
+        ideal = subst (λ y. IsIdeal h m (Of shared).output spoken (Of shared).continues outputs headed (names_in name_of shared.part.number shared.part.count visits) y after.now) (sym v.left_is) (good.ideal a.told stop gone);
+        keeps = good.keeps;
+        still = good.still;
+      })
 
 asked_by : {I O : Type 0} (h : Host I O) (name_of : Visit → Name) (spoken : List ℕ → Bool) (outputs : Outputs) (visits : List Visit) (before : Tree) (k : Manner) (keeps : Bool) (task : Task) (output part : List ℕ) → k.keeps_names ≡ keeps → k.task ≡ task → k.output ≡ output → k.part ≡ part
     → OfAll (λ v. IsName h keeps task output before v (name_of v) × SpeaksOf spoken (name_of v)) visits → TellsApart h output part spoken outputs → Shows h output spoken before outputs → IsUtf8 part → at_path h before part ≡ None → (keeps ≡ false → FollowsLinks h before) → Asked h name_of spoken outputs visits before k
@@ -280,9 +302,19 @@ asked_by h name_of spoken outputs visits before k keeps task output part kept_is
   follows = λ not. follows (sym kept_is ∙ not);
 }
 
+pub run_left : {I O F W E : Type 0} (r : Reader I) (w : Writer O) (m : Writer W) (e : Writer E) (h : Host I O) (run : TreeRun) (before : FileSystem) (visits : List Visit) (headed left : W) (after : FileSystem) (name_of : Visit → Name) (spoken : List ℕ → Bool) (outputs : Outputs) → TellsAll h w → (run.options.keeps_names ≡ false → FollowsLinks h before.now)
+    → Ran F h r w m e run before visits headed left after → OfAll (λ v. IsName h run.options.keeps_names (task_of run.task) run.output.now before.now v (name_of v)) visits → OfAll (λ v. SpeaksOf spoken (name_of v)) visits → TellsApart h run.output.now (part_path run) spoken outputs → Shows h run.output.now spoken before.now outputs
+    → RunLeft h m run before.now visits headed left after.now name_of spoken outputs
+run_left {I} {O} {F} r w m e h run before visits headed left after name_of spoken outputs tells follows ran named speaks apart shows =
+    visited_ideal F h r w m e tells name_of spoken outputs run before ran.quiet visits headed left after ran.removed ran.begun ran.part_is
+    (λ k kept_is t o p. asked_by h name_of spoken outputs visits before.now k run.options.keeps_names (task_of run.task) run.output.now (part_path run) kept_is t o p
+    (both_all (λ v. IsName h run.options.keeps_names (task_of run.task) run.output.now before.now v (name_of v)) (λ v. SpeaksOf spoken (name_of v)) visits named speaks) apart shows ran.text ran.nothing follows) ran.visited
+
 pub run_is_ideal : {I O F W E : Type 0} (r : Reader I) (w : Writer O) (m : Writer W) (e : Writer E) → RunIsIdeal F r w m e
 run_is_ideal {I} {O} {F} r w m e h run before visits headed left after name_of spoken outputs tells follows ran named speaks apart shows =
-    let x = visited_ideal F h r w m e tells name_of spoken outputs run before ran.quiet visits headed left after ran.removed ran.begun ran.part_is
-    (λ k kept_is t o p. asked_by h name_of spoken outputs visits before.now k run.options.keeps_names (task_of run.task) run.output.now (part_path run) kept_is t o p
-    (both_all (λ v. IsName h run.options.keeps_names (task_of run.task) run.output.now before.now v (name_of v)) (λ v. SpeaksOf spoken (name_of v)) visits named speaks) apart shows ran.text ran.nothing follows) ran.visited in
+    let x = run_left {F = F} r w m e h run before visits headed left after name_of spoken outputs tells follows ran named speaks apart shows in
     (x.shows, x.rows)
+
+-- a name comes to the same behind it
+pub name_kept : {I O : Type 0} (h : Host I O) (keeps : Bool) (task : Task) (output : List ℕ) (t u : Tree) (v : Visit) (n : Name) → KeepsAll h output t u → IsName h keeps task output t v n → IsName h keeps task output u v n
+name_kept h keeps task output t u v n still its = record { name_is = its.name_is; relative_is = its.relative_is; comes_is = comes_kept h keeps task output t u v n.comes still its.comes_is }
