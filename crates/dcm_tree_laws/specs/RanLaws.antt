@@ -1,21 +1,23 @@
 -- What the laws of the ideal run say of runs over a tree.
-use Rattle.std.specs.Prelude.{◌≡◌, ℕ, List, [], ◌∷◌, map, Bool, true, false, Option}
+use Rattle.std.specs.Prelude.{◌≡◌, ◌<◌, ℕ, List, [], ◌∷◌, map, Bool, true, false}
 use Rattle.std.specs.Io.KnownBytes.{append_known}
 use Rattle.dcm_devices.specs.Writing.{Writer}
 use Rattle.dcm_walk.specs.Names.{below}
 use Rattle.dcm_cli.specs.Calls.{Reader}
 use Rattle.dcm_trees.specs.declared.run.TreeRun.{TreeRun}
-use Rattle.dcm_trees.specs.Task.{task_of}
+use Rattle.dcm_trees.specs.Run.{part_name}
+use Rattle.dcm_trees.specs.Task.{Task, task_of}
 use Rattle.dcm_tree_laws.specs.Again.{OfAll}
 use Rattle.dcm_tree_laws.specs.Determined.{FollowsLinks}
 use Rattle.dcm_tree_laws.specs.FileSystem.{FileSystem, Tree, Host, at_path}
 use Rattle.dcm_tree_laws.specs.Flows.{AlikeAt}
 use Rattle.dcm_tree_laws.specs.Ideal.{Outputs, has_way, Name, outputs_after, rows_of, share}
-use Rattle.dcm_tree_laws.specs.IdealLaws.{EachTwo, LeavesFree, row_again}
+use Rattle.dcm_tree_laws.specs.IdealLaws.{EachTwo, LeavesFree, row_again, AreAllShares, GoBeside}
 use Rattle.dcm_tree_laws.specs.Laws.{part_path}
 use Rattle.dcm_tree_laws.specs.Ran.{IsName, Shows, TellsApart, SpeaksOf, Ran, text_of}
 use Rattle.dcm_tree_laws.specs.Rows.{Visit}
 use Rattle.dcm_tree_laws.specs.Single.{TellsAll}
+use Rattle.dcm_tree_laws.specs.Together.{IsRunOf}
 
 -- what is asked of a run: its visits are these names, and the outputs at its start are these
 pub record IsAsked {I O : Type 0} (h : Host I O) (run : TreeRun) (start : Tree) (visits : List Visit)
@@ -80,3 +82,43 @@ NoNameShows {I} {O} {W} {E} F reader output m errors =
     → Ran F h reader output m errors second start others reheaded releft end
     → LeaveAlike h first.output.now is_spoken
     (outputs_after first.options.continues outputs (names_of first name_of visits)) after.now end.now
+
+-- ---- shares
+
+-- one of several runs that do the same into one folder, and go on
+pub record IsShareOf (keeps : Bool) (task : Task) (folder : List ℕ) (number count : ℕ) (run : TreeRun) : Type 0 where
+  pub is_run : IsRunOf keeps task folder number count run
+  pub goes_on : run.options.continues ≡ true
+
+-- runs of these shares, one after another, each upon what the one before left, which all visit these names
+pub data RanShares {I O W E : Type 0} (F : Type 0) (h : Host I O) (reader : Reader I) (output : Writer O) (m : Writer W)
+    (errors : Writer E) (keeps : Bool) (task : Task) (folder : List ℕ) (count : ℕ) (visits : List Visit)
+    : (numbers : List ℕ) → (before after : Tree) → Type 0 where
+  no_run : {before after : Tree} → after ≡ before
+      → RanShares F h reader output m errors keeps task folder count visits [] before after
+  and_run : {numbers : List ℕ} {before after : Tree} (number : ℕ) (run : TreeRun) (start mid : FileSystem)
+      (headed left : W) → IsShareOf keeps task folder number count run → start.now ≡ before
+      → Ran F h reader output m errors run start visits headed left mid
+      → RanShares F h reader output m errors keeps task folder count visits numbers mid.now after
+      → RanShares F h reader output m errors keeps task folder count visits (number ∷ numbers) before after
+
+-- what is asked of them: the same, with the part of each run apart from the outputs
+pub record AreAsked {I O : Type 0} (h : Host I O) (keeps : Bool) (task : Task) (folder : List ℕ) (start : Tree)
+    (visits : List Visit) (name_of : Visit → Name) (is_spoken : List ℕ → Bool) (outputs : Outputs) : Type 0 where
+  pub follows : keeps ≡ false → FollowsLinks h start
+  pub named : OfAll (λ v. IsName h keeps task folder start v (name_of v)) visits
+  pub speaks : OfAll (λ v. SpeaksOf is_spoken (name_of v)) visits
+  pub apart : (number : ℕ) → TellsApart h folder (below folder (part_name number)) is_spoken outputs
+  pub shows : Shows h folder is_spoken start outputs
+
+-- runs of all shares, in any order, leave what one run of all names leaves, where two names come to the same or their
+-- outputs are apart
+abbrev pub SharesLeaveOne : {I O W E : Type 0} → (F : Type 0) → Reader I → Writer O → Writer W → Writer E → Type 0
+SharesLeaveOne {I} {O} {W} {E} F reader output m errors =
+    (h : Host I O) (keeps : Bool) (task : Task) (folder : List ℕ) (count : ℕ) (numbers : List ℕ)
+    (visits : List Visit) (start after alone : Tree) (name_of : Visit → Name) (is_spoken : List ℕ → Bool)
+    (outputs : Outputs) → TellsAll h output → 0 < count → AreAllShares count numbers
+    → AreAsked h keeps task folder start visits name_of is_spoken outputs → EachTwo GoBeside (map name_of visits)
+    → RanShares F h reader output m errors keeps task folder count visits numbers start after
+    → RanShares F h reader output m errors keeps task folder 1 visits (1 ∷ []) start alone
+    → LeaveAlike h folder is_spoken (outputs_after true outputs (map name_of visits)) after alone

@@ -3,7 +3,7 @@ ghost use Rattle.dcm_tree_laws.specs.IdealLaws.{FreeIsWritten, NewIsContinued, N
 ghost use Rattle.dcm_tree_laws.specs.IdealLaws.{OutputsStay, SecondIsFirst, SharesAreOne, StatusSays, WrittenIsMade};
 ghost use Rattle.dcm_tree_laws.specs.IdealLaws.{WrittenIsThere};
 ghost use Rattle.dcm_tree_laws.specs.Ran.{RunIsIdeal};
-ghost use Rattle.dcm_tree_laws.specs.RanLaws.{NoNameShows, SecondRunIsFirst};
+ghost use Rattle.dcm_tree_laws.specs.RanLaws.{NoNameShows, SecondRunIsFirst, SharesLeaveOne};
 
 use dcm_base::{DeviceIn, DeviceOut};
 
@@ -80,4 +80,11 @@ pub fn second_runs_are_first<I: DeviceIn, O: DeviceOut, W: DeviceOut, E: DeviceO
 /// is named by UIDs comes to has no name of it.
 pub fn no_name_shows<I: DeviceIn, O: DeviceOut, W: DeviceOut, E: DeviceOut, F>()
     ensures run { NoNameShows F I.DeviceIn O.DeviceOut W.DeviceOut E.DeviceOut }
+{}
+
+/// Runs of all shares of a tree, in any order, leave the outputs that one run of all names leaves. They do the same into
+/// one folder, go on with what is there, and visit the same names. Two names come to the same, or their outputs have
+/// names of their own, of which none is on the way to the other.
+pub fn shares_leave_one<I: DeviceIn, O: DeviceOut, W: DeviceOut, E: DeviceOut, F>()
+    ensures run { SharesLeaveOne F I.DeviceIn O.DeviceOut W.DeviceOut E.DeviceOut }
 {}
