@@ -1,15 +1,17 @@
 #!/usr/bin/env python3
-"""Writes the table of laws into docs/auditors/LAWS.md: each law by its name, with the first sentence of its comment.
+"""Writes the table of laws into docs/auditors/LAWS.md: each law by its name, with the sentence of its comment.
 
     scripts/make_laws.py            writes the table
     scripts/make_laws.py --check    ends with 1 where the page has another one, or a line is too long
 
-A law is a public function of a crate's src/laws.rt, or of its src/ideal.rt, whose contract is what is proved. Those of ON_THE_WAY carry what the contracts of
-functions say up to the definitions, and are counted without a line. Those of IN_THE_THEOREM are named in the promises of PROVED.
+A law is a public function of a crate's src/laws.rt, or of its src/ideal.rt, whose contract is what is proved. Its comment is one
+sentence that says what a user gets from the law, and then a list of conditions. Laws of ON_THE_WAY carry what the contracts of functions
+say up to the definitions, and are counted without a line. Those of IN_THE_THEOREM are named in the promises of PROVED.
 """
 import re
 import sys
 from pathlib import Path
+from typing import NamedTuple
 
 sys.dont_write_bytecode = True
 
@@ -60,12 +62,21 @@ def in_the_theorem(crate: str) -> set:
     return set(IN_THE_THEOREM.get(crate, "").split())
 
 
+class Law(NamedTuple):
+    """A law by its name, and its comment: one sentence, and then perhaps a list of conditions."""
+
+    name: str
+    sentence: str
+    conditions: str
+
+
 def laws_in(path: Path, module: str) -> list:
-    """The name of each law of a file and the sentences of its comment."""
+    """The laws of a file."""
     laws = []
     for comment, name in re.findall(r"((?:^///.*\n)+)pub fn (\w+)", path.read_text(), re.M):
-        words = " ".join(line[3:].strip() for line in comment.splitlines())
-        laws.append((module + name, re.split(r"(?<=[.]) (?=[A-Z`]|dcm)", words)))
+        text = re.sub(r"^/// ?", "", comment, flags=re.M).strip()
+        sentence, _, conditions = text.partition("\n\n")
+        laws.append(Law(module + name, sentence.replace("\n", " "), conditions))
     return laws
 
 
@@ -85,10 +96,10 @@ def table() -> str:
     rows, others = ["| Law | It says |", "|---|---|"], set()
     for crate in crates():
         way = on_the_way(crate)
-        for name, sentences in laws_of(crate):
-            if name not in way | in_the_theorem(crate):
-                more = " .." if len(sentences) > 1 else ""
-                rows.append(f"| `{crate}::{name}` | {sentences[0].rstrip('.')}{more} |")
+        for law in laws_of(crate):
+            if law.name not in way | in_the_theorem(crate):
+                more = " .." if law.conditions else ""
+                rows.append(f"| `{crate}::{law.name}` | {law.sentence.rstrip('.')}{more} |")
         if way:
             others.add(crate)
     count = sum(map(len, map(on_the_way, ON_THE_WAY)))
@@ -99,14 +110,16 @@ def faults() -> list:
     """The names that are no laws, and the lines that are too long."""
     wrong = []
     for crate in crates():
-        laws = dict(laws_of(crate))
+        laws = {law.name: law for law in laws_of(crate)}
         way = on_the_way(crate)
         wrong += [f"{crate} has no law {name}" for name in sorted((way | in_the_theorem(crate)) - set(laws))]
         wrong += [f"docs/auditors/PROVED.md does not name {name}" for name in sorted(in_the_theorem(crate)) if f"`{name}`" not in PROVED.read_text()]
-        for name, sentences in laws.items():
-            count = len(sentences[0].split())
-            if name not in way and count > MOST_WORDS:
-                wrong.append(f"{crate} {name}: its first sentence has {count} words, more than {MOST_WORDS}")
+        for law in laws.values():
+            count = len(law.sentence.split())
+            if law.name not in way and count > MOST_WORDS:
+                wrong.append(f"{crate} {law.name}: its sentence has {count} words, more than {MOST_WORDS}")
+            if law.conditions and not law.conditions.startswith("- "):
+                wrong.append(f"{crate} {law.name}: what follows its sentence is no list")
     return wrong
 
 

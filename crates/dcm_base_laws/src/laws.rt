@@ -20,12 +20,12 @@ ghost use Rattle.dcm_base.specs.Lines.Line.{LineMeans, one, begin_item, end_item
 ghost use Rattle.dcm_base.specs.declared.length.Length.{Length};
 ghost use Rattle.dcm_base.specs.declared.syntax.Syntax.{Syntax};
 
-/// Atoms show at most one data set as far as it was read.
+/// The same atoms show only one data set, as far as the data set was read.
 pub fn one_shown()
     ensures { (f g : Front) (atoms : List Atom) → Shows f atoms → Shows g atoms → f ≡ g }
 {}
 
-/// Each line of a full dump means the step of what it shows.
+/// Each line of a full dump means what the line shows: an element, an item, a fragment, or an end.
 pub fn line_reads_back()
     ensures leaf { LeafLinesMean }
     ensures fragment { FragmentLinesMean }
@@ -39,13 +39,17 @@ pub fn line_reads_back()
         → LineMeans (sequence_end_line d level size) (one end_sequence) }
 {}
 
-/// What a full dump loses of a data set, its known lengths and pad bytes, is not written.
+/// What a full dump does not show of a data set, known lengths and pad bytes, makes no difference to the bytes that are
+/// written.
 pub fn rebuilt_recodes()
     ensures { (s : Syntax) (set : Trees) → recode_set s (rebuilt set) ≡ recode_set s set }
 {}
 
-/// Each data set fits an explicit target with the extract. What was read of one fits an explicit target with the same
-/// dictionary, but for values that are too long, and what was read of an implicit one fits each.
+/// A data set can be written in the target syntax so that its values and its sequences stay apart.
+///
+/// - The target is explicit and is read with the extract; or
+/// - the data set was read with the dictionary of an explicit target, and no value is too long for its VR; or
+/// - the data set was read from an implicit syntax, with the dictionary of the target.
 pub fn target_fits()
     ensures extract { (target : Syntax) (f : Front) → is_explicit target ≡ true → dictionary_of target ≡ Extract
         → FrontFits target f }
@@ -58,7 +62,7 @@ pub fn keywords_differ()
     ensures { (d : Dictionary) → AllPairs (λ (x y : Element). x.2 ≢ y.2) (elements_in d) }
 {}
 
-/// The keyword of an element gives the number of its tag back.
+/// The keyword of an element leads back to the tag of the element.
 pub fn called_back()
     ensures { (d : Dictionary) (n : ℕ) (e : Vr × List ℕ) → numbered (elements_in d) n ≡ Some e
         → called (elements_in d) e.1 ≡ Some n }

@@ -9,10 +9,11 @@ ghost use Rattle.dcm_build.specs.Building.{build_start, build_step};
 ghost use Rattle.dcm_build_laws.specs.Laws as laws;
 ghost use Rattle.dcm_build_laws.specs.StepsBuild.{BuildAgain, MayStand};
 
-/// Over the bytes of an input, one by one, the state of a file that is built writes what the lines of the input build,
-/// and reports their fault; over a beginning of it without fault, it writes what the lines that have ended build; and a
-/// fault that was reported stays, whatever follows. It goes on as long as the bytes so far are undecided: a call halts
-/// with a fault exactly where the bytes before it and its piece are not, and with the fault that is reported of them.
+/// A file that is built from lines in pieces is the file that all lines build together, and has the same fault.
+///
+/// - While the input still comes, what is written is what the lines that have ended build.
+/// - A fault that was reported stays, whatever follows.
+/// - A call ends the run exactly when the bytes so far decide the fault, and not earlier.
 pub fn build_steps()
     ensures whole { laws.StepsBuild }
     ensures so_far { laws.StepsBuildSoFar }
@@ -23,21 +24,26 @@ pub fn build_steps()
     ensures fault { (limit : ℕ) (before piece : List ℕ) (told : LineStop) → CallTells limit before piece told }
 {}
 
-/// The lines of a full dump of a data set mean, one after another, the steps of what it shows, where none of them is
-/// too long.
+/// The lines of a full dump mean, one after another, the elements that the dump shows.
+///
+/// - No line is longer than the limit.
 pub fn dump_lines()
     ensures { laws.LinesMean }
 {}
 
-/// These steps, from an empty data set on, build it again: its values as they are shown, and its sequences and items
-/// with undefined lengths.
+/// What a full dump shows builds the data set again, with undefined lengths of sequences and items.
+///
+/// - The tags of each data set ascend, and the data set may stand in the target syntax.
 pub fn steps_build()
     ensures { (coding : Coding) (set : Trees) → Ascend None set → MayStand coding 0 set → BuildAgain coding set }
 {}
 
-/// The full dump of a file that is read without fault builds it again, but for its preamble. It does so in its own
-/// transfer syntax, where its values are of whole units, the tags of each of its data sets ascend, and no line of the
-/// dump passes the limit. So does that of any trees that can be built.
+/// The full dump of a file builds the file again, but for the preamble.
+///
+/// - The file is read without fault, and is built in its own transfer syntax.
+/// - Its values are of whole units, and the tags of each data set ascend.
+/// - No line of the dump is longer than the limit.
+/// - So does the dump of any data set that can be built.
 pub fn dump_builds()
     ensures file { laws.FileBuilds }
     ensures trees { laws.TreesBuild }

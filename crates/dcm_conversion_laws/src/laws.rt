@@ -3,9 +3,11 @@ ghost use Rattle.dcm_conversion_laws.specs.Laws.{AscendingAgree, ConvertersAgree
 ghost use Rattle.dcm_conversion_laws.specs.Laws.{ExplicitKeeps, FilesCompose, FrontsCompose, ModifiersAgree};
 ghost use Rattle.dcm_conversion_laws.specs.Laws.{ReadingsAgree, SetsCompose};
 
-/// A conversion to one syntax, and of its output to another, writes what the second writes alone. So it is where no
-/// form is lost on the way: the target would write the same representation, and no pad byte becomes part of a unit that
-/// is turned. No form is lost by an explicit way of the same order of bytes, nor of values of even length.
+/// Converting a file to one syntax and then to another writes the same as converting it to the second syntax at once.
+///
+/// - Both targets write the same VRs.
+/// - No pad byte becomes a part of a unit whose bytes are swapped.
+/// - Both hold if the first target is explicit, and has the byte order of the second, or all values have even lengths.
 pub fn recode_composes()
     ensures sets { SetsCompose }
     ensures read { FrontsCompose }
@@ -13,11 +15,12 @@ pub fn recode_composes()
     ensures kept { ExplicitKeeps }
 {}
 
-/// What the extract reads of an explicit data set, to its end or to a fault, each dictionary reads so too, and stops
-/// there alike. So it is where by that dictionary no unknown value that was read is a sequence, and no sequence is
-/// unknown. Then dcmconv has the same output, lines and status with it, also of files that are refused, and dcmdump has
-/// them but for keywords. dcmodify has them with edits that the extract takes. One line may differ: by the extract a
-/// head does not ascend that is too deep by the dictionary.
+/// With `+dict` and without it, the tools give the same output, lines and status for an explicit file.
+///
+/// - By the whole dictionary no UN value of the file is a sequence, and no sequence is UN.
+/// - This holds of faulty files too, and of dcmdump but for keywords.
+/// - The edits of dcmodify are of elements that the extract knows.
+/// - One line may differ: the extract may see tags that do not ascend where the whole dictionary sees too many levels.
 pub fn dictionaries_agree()
     ensures readings { ReadingsAgree }
     ensures ascending { AscendingAgree }

@@ -29,21 +29,24 @@ ghost use Rattle.dcm_deid.specs.Research.{OthersBecomeTheSame, PatientsGetPseudo
 ghost use Rattle.dcm_deid.specs.Research.{WhatSaidOfDatesGoes, WhatStaysIsMoved};
 ghost use Rattle.dcm_deid.specs.Uids.{HeadsBy, NewByKey, SetsBy, UidsAgree};
 
-/// The numbers of the table ascend, so that it has no tag twice.
+/// The table of actions is sorted by tag, and has no tag twice.
 pub fn actions_ascend()
     ensures { IsStrictlyIncreasing (map (λ (a : Action). a.0) actions) }
 {}
 
-/// Nothing of what is taken out of a data set has any influence on what is left: old dates none but by the moved ones,
-/// and a PatientID none but by its pseudonym. So it is where the dates of two data sets are moved by other days.
+/// What dcmdeid removes, empties or replaces by a fixed value has no influence on the data set that remains.
+///
+/// - Old dates show only through the shifted dates, and a PatientID only through its pseudonym.
+/// - The two data sets that are compared may have different date shifts.
 pub fn nothing_flows()
     ensures { (options : Options) (key : List ℕ) (depth : Depth) (d e : ℤ) (f g : Trees) → Alike options depth d e f g
         → deidentified_set (moving options d) (made_new (moving options d) key) depth f
         ≡ deidentified_set (moving options e) (made_new (moving options e) key) depth g }
 {}
 
-/// Nothing that is taken is left, at any depth. Each value that is made anew has the form that is made: it is empty, an
-/// identifier, a pseudonym, or dates that there are, and may have a pad byte.
+/// What dcmdeid removes is gone at every depth, and each new value has the form of a new value.
+///
+/// - A new value is empty, an identifier, a pseudonym, or existing dates, perhaps with a pad byte.
 pub fn taken_is_gone()
     ensures clean { (options : Options) (new : Renaming) (depth : Depth) (f : Trees)
         → IsClean (fate_as options) new depth (deidentified_set options new depth f) }
@@ -51,21 +54,24 @@ pub fn taken_is_gone()
         → AreMadeAnew options key depth (deidentified_set options (made_new options key) depth f) }
 {}
 
-/// What has fate keep, and is no sequence that was read as bytes, is as it was, at every depth.
+/// An element that dcmdeid keeps is unchanged, at every depth.
+///
+/// - The element is no sequence that was read as bytes.
 pub fn others_are_kept()
     ensures { (options : Options) (new : Renaming) (depth : Depth) (f : Trees)
         → kept_of options depth (deidentified_set options new depth f) ≡ kept_of options depth f }
 {}
 
-/// Nothing is added to a whole data set but the elements that say what was done.
+/// dcmdeid adds nothing to a data set but the elements that record the de-identification.
 pub fn only_said_is_put()
     ensures { (options : Options) (new : Renaming) (reached : Option Tag) (f : Trees)
         → unsaid (whole_of (deidentified options new (read_whole reached f)))
         ≡ unsaid (deidentified_set options new Outermost f) }
 {}
 
-/// So it is with the bytes that are written: data sets that are read without fault and differ only in what is taken
-/// give the same.
+/// What dcmdeid removes, empties or replaces by a fixed value has no influence on the bytes that are written.
+///
+/// - The data sets are read without fault.
 pub fn nothing_flows_out()
     ensures { (options : Options) (key : List ℕ) (target : Syntax) (reached other : Option Tag) (d e : ℤ) (f g : Trees)
         → Alike options Outermost d e f g
@@ -73,37 +79,40 @@ pub fn nothing_flows_out()
         ≡ recode target (deidentified (moving options e) (made_new (moving options e) key) (read_whole other g)) }
 {}
 
-/// Data sets whose elements pair off, but for those that go and what is taken of those that stay, differ only in what
-/// is taken.
+/// Two data sets differ only in what is removed, where their elements pair off apart from what is removed of them.
 pub fn pairs_are_alike()
     ensures { (options : Options) (depth : Depth) (d e : ℤ) (f g : Trees)
         → Pairs (left_of (moving options d)) (left_of (moving options e)) (fate_as (moving options d)) depth f g
         → Alike options depth d e f g }
 {}
 
-/// The bar of the sink is that of tags that ascend and of identity that can be taken out.
+/// The sink of dcmdeid refuses exactly the tags that do not ascend, and the elements from which identity cannot be
+/// removed.
 pub fn bar_steps()
     ensures { BarSteps }
 {}
 
-/// What the sink passes on of the atoms of a data set, whole or as far as it was read, shows it without identity.
+/// The sink of dcmdeid passes on the data set without identity, also where reading stops at a fault.
 pub fn deidentify_steps()
     ensures { DeidentifySteps }
 {}
 
-/// After a data set that was read without fault, the sink knows whether its pixels may show identity, as far as what
-/// was passed on says so.
+/// After a data set without fault, the sink of dcmdeid knows whether the pixels may show identity, by what was passed
+/// on.
 pub fn pixel_steps()
     ensures { PixelSteps }
 {}
 
-/// After a data set, whole or as far as it was read, the sink knows how many dates were emptied. Such a date is a value
-/// that is moved, has more than padding, and has nothing in its place.
+/// The number of emptied dates that dcmdeid tells is the number of values that are to be shifted, hold more than
+/// padding, and are empty in the output.
+///
+/// - This holds of data sets that are cut off too.
 pub fn dates_are_counted()
     ensures { DateSteps }
 {}
 
-/// What stays has a tag of the dictionary, and if it was read as bytes it is no sequence there.
+/// Each element that remains has a tag of the dictionary, and a value that was read as bytes is no sequence by the
+/// dictionary.
 pub fn what_stays_is_known()
     ensures known { (options : Options) (depth : Depth) (read : ReadAs) (tag : Tag)
         → fate_as options depth read tag ≢ Remove → is_known tag ≡ true }
@@ -111,21 +120,25 @@ pub fn what_stays_is_known()
         → is_sequence (vr_in Standard tag) ≡ false }
 {}
 
-/// What is made of a value has its form: it is empty, an identifier, a pseudonym, or dates that there are.
+/// Each new value has its form: empty, an identifier, a pseudonym, or existing dates.
 pub fn made_values_have_form()
     ensures { (options : Options) (key : List ℕ) (made : NewValue) (b : List ℕ) → HasForm made
         (made_new options key made b) }
 {}
 
-/// Unless full dates are kept, no element of dates stays as it is, at any depth.
+/// No date element keeps its value, at any depth.
+///
+/// - Full dates are not asked for (`+rl`).
 pub fn no_date_stays()
     ensures { (options : Options) (depth : Depth) (read : ReadAs) (tag : Tag) → are_full options.dates ≡ false
         → IsDateVr (vr_in Standard tag) → fate_as options depth read tag ≢ Keep }
 {}
 
-/// With pseudonyms each PatientID becomes one, at every depth and however it was read. With moved dates each date that
-/// stays with full ones is moved, alone or with a time, and all else becomes what it becomes with full ones. The
-/// element that says what became of dates is set aside: it goes, and is put anew.
+/// With `+pi` each PatientID becomes a pseudonym, and with `+rm` each date that `+rl` would keep is shifted, at every
+/// depth.
+///
+/// - Every other element has the action that it has with `+rl`.
+/// - The element that records what became of dates is replaced.
 pub fn fates_of_research()
     ensures pseudonyms { PatientsGetPseudonyms }
     ensures moved { WhatStaysIsMoved }
@@ -133,8 +146,10 @@ pub fn fates_of_research()
     ensures said { WhatSaidOfDatesGoes }
 {}
 
-/// A new unique identifier is a function of the key and of the old one without its padding. Of the instance it is the
-/// same function in the head of a file and in its data set: where they named the same instance, they do so afterwards.
+/// A new UID depends only on the key and the old UID, so references between files stay right.
+///
+/// - Padding of the old UID does not count.
+/// - If the head and the data set of a file named the same instance, they do so in the output.
 pub fn uids_agree()
     ensures by_key { NewByKey }
     ensures in_head { HeadsBy }

@@ -1,13 +1,12 @@
 //! Laws of the definitions. Each function takes nothing and makes no call: its contract is the law.
 ghost use Rattle.dcm_dumps.specs.Laws.{DumpsAreOne, DumpsAreSome};
 
-/// Words that ask for dumps of several files come to at most one outcome over files in memory: the text, the lines and
-/// the status.
+/// A command line that asks for dumps of several files has only one outcome over files in memory.
 pub fn dumps_are_one()
     ensures { DumpsAreOne }
 {}
 
-/// They come to an outcome, whatever the files hold.
+/// A command line that asks for dumps of several files has an outcome, whatever the files hold.
 pub fn dumps_are_some()
     ensures { DumpsAreSome }
 {}

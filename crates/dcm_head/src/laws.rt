@@ -11,8 +11,8 @@ ghost use Rattle.dcm_base.specs.File.MetaReads.{MetaAnswer, MetaReads};
 ghost use Rattle.dcm_head.specs.declared.meta_read.MetaEnd.{MetaEnd};
 ghost use Rattle.dcm_head.specs.MetaReading.{CallEnds, Reading, Says, at_start, meta_step, meta_finished};
 
-/// A head is read exactly where the bytes begin with its spelling, more bytes are asked for exactly where a head
-/// misses them, and a representation is refused exactly where it is not two capitals.
+/// The head of an element is read exactly where the bytes spell a head, more bytes are asked for exactly where bytes
+/// are missing, and a VR is refused exactly where it is not two capitals.
 pub fn heads_read()
     ensures done { (s : Syntax) (bytes : List ℕ) (head : Head) (size : ℕ)
         → (head_read s bytes ≡ Done head size) ↔ Begins s bytes head size }
@@ -20,36 +20,38 @@ pub fn heads_read()
     ensures bad { (s : Syntax) (bytes : List ℕ) → (head_read s bytes ≡ BadVr) ↔ HasBadVr s bytes }
 {}
 
-/// Bytes begin with at most one head.
+/// Bytes begin with at most one head of an element.
 pub fn one_head()
     ensures { OneHead }
 {}
 
-/// The bytes that a head is written as spell it.
+/// The bytes that are written for a head spell this head.
 pub fn heads_written()
     ensures { (s : Syntax) (head : Head) → HasSpelling s head
         → HeadSpells s head.tag head.vr head.length (head_bytes s head) }
 {}
 
-/// A file's head has at most one answer.
+/// Reading the head of a file has only one result.
 pub fn meta_reads_one()
     ensures { (file : List ℕ) (answer other : MetaAnswer) → MetaReads file answer → MetaReads file other
         → answer ≡ other }
 {}
 
-/// A file's head has an answer.
+/// Reading the head of a file has a result, whatever the bytes are.
 pub fn meta_reads()
     ensures { (file : List ℕ) → (answer : MetaAnswer) × MetaReads file answer }
 {}
 
-/// After a group that ended in a piece, the bytes of the data set are the byte ahead and the piece from its place on.
+/// The data set begins right behind the meta group, also where the meta group ends within a piece.
 pub fn data_set_begins()
     ensures { DataSetBegins }
 {}
 
-/// The reading byte by byte ends with the answer to the whole, and goes on exactly as long as more bytes can change
-/// that: a call ends it exactly where the bytes before it and its piece are not undecided, and with a fault exactly
-/// where that is their answer.
+/// Reading the head of a file in pieces has the same result as reading the head at once, and ends as early as the bytes
+/// allow.
+///
+/// - The reading goes on exactly while more bytes can change the result.
+/// - A call ends with a fault exactly where this fault is the result.
 pub fn meta_steps()
     ensures said { (file : List ℕ) (answer : MetaAnswer) → MetaReads file answer
         → Says (meta_finished (fold meta_step at_start file)) answer }

@@ -2,7 +2,7 @@
 ghost use Rattle.std.specs.Prelude.{List, ℕ};
 ghost use Rattle.dcm_names.specs.Laws.{LinesInPieces};
 
-/// The lines of a list do not depend on the pieces in which it is read.
+/// The lines of a list do not depend on the pieces in which the list is read.
 pub fn lines_in_pieces()
     ensures { (line front back : List ℕ) → LinesInPieces line front back }
 {}

@@ -12,52 +12,64 @@ ghost use Rattle.dcm_run_laws.specs.FirstLaws.{DaysAreOfOutermost, FirstReadingD
 ghost use Rattle.dcm_run_laws.specs.FirstLaws.{OnePatientOneMove, MovesBack, NothingFlowsByKey};
 ghost use Rattle.dcm_run_laws.specs.Flows.{NothingFlows};
 
-/// A run that builds the full dump of a file comes to what its conversion writes, but for the preamble. That is the
-/// conversion to its own transfer syntax. Where the file is read without fault, its values are of whole units, the tags
-/// of each of its data sets ascend, and no line of the dump passes the limit, the second run ends with status 0, and
-/// the first 128 bytes of its output are 0.
+/// dump2dcm builds from the full dump of a file what dcmconv writes of the file in its own transfer syntax, but for the
+/// preamble.
+///
+/// - The file is read without fault, its values are of whole units, and the tags of each data set ascend.
+/// - No line of the dump is longer than the limit.
+/// - Then the status of dump2dcm is 0, and the preamble is 128 zeros.
 pub fn dump_builds_runs()
     ensures { DumpBuilds }
 {}
 
-/// Without edits dcmodify answers what `dcmconv +t=` answers, where no tag is refused for its order.
+/// dcmodify without edits writes what `dcmconv +t=` writes.
+///
+/// - No tag is refused for its order.
 pub fn no_edits_convert()
     ensures { NoEditsConvert }
 {}
 
-/// What dcmodify writes of a file without fault is a file that is read without fault. Its preamble and its transfer
-/// syntax are those of the input, its meta group is the one that was written anew, and its data set is the normal form
-/// of the edited one. Here and in what follows, a value that is too long for its representation, and so becomes
-/// unknown, may not be of a tag that the dictionary calls a sequence: that would be read as one.
+/// The output of dcmodify is a file that is read without fault, with the edited data set.
+///
+/// - The input has no fault.
+/// - The preamble and the transfer syntax are those of the input, and the meta group is new.
+/// - No value that is too long for its VR, and so becomes UN, has the tag of a sequence. The other laws of outputs ask
+///   for this too.
 pub fn modified_reads()
     ensures { ModifiedReads }
 {}
 
-/// What dcmconv writes of one is so too. It has the transfer syntax of the target, and the normal form of the data set.
-/// To an implicit one, the dictionary has to tell its values from its sequences.
+/// The output of dcmconv is a file that is read without fault, with the same data set in the target syntax.
+///
+/// - The input has no fault.
+/// - For an implicit target the dictionary has to tell its values from its sequences.
 pub fn converted_reads()
     ensures { ConvertedReads }
 {}
 
-/// After `-ea` the output has no element of the tag, after `-ep` none of an odd group, after `-ma` each has the value.
-/// So it is for a file without fault, at any depth, however the output is read as a file, and that is without fault.
-/// The value is as it is written.
+/// After `-ea` the output has no element of the tag, after `-ep` no private element, and after `-ma` each element has
+/// the new value, at any depth.
+///
+/// - The input has no fault, and the output is read as a file.
 pub fn output_is_edited()
     ensures erased_all { ErasedAll }
     ensures erased_private { ErasedPrivate }
     ensures modified_all { ModifiedAll }
 {}
 
-/// What no edit may change is in it, however it is read. Without the elements of the tags that edits may change, it is
-/// the normal form of the data set that was read, without them. In an implicit one that is read by the whole dictionary
-/// no edit may change PixelRepresentation, on which the representations of others depend.
+/// dcmodify does not change elements that no edit names.
+///
+/// - The input has no fault.
+/// - In an implicit syntax that is read with the whole dictionary no edit may change PixelRepresentation, on which the
+///   VRs of others depend.
 pub fn output_keeps_others()
     ensures { OthersStay }
 {}
 
-/// What is erased, set and left is so for readers with another dictionary that opens the output alike. In an implicit
-/// one, no value is a sequence by it, and each sequence is one; in an explicit one, no unknown value is a sequence by
-/// it. They read the same data set, with other representations.
+/// What dcmodify erased, set and kept is so for readers with another dictionary that looks into the same sequences.
+///
+/// - In an implicit output the reader's dictionary has the same tags as sequences.
+/// - In an explicit output no UN value is a sequence by the reader's dictionary.
 pub fn output_for_others()
     ensures alike { ReadsAlike }
     ensures erased_all { ErasedAllBy }
@@ -66,58 +78,69 @@ pub fn output_for_others()
     ensures others_stay { OthersStayBy }
 {}
 
-/// The extract opens explicit outputs alike, and each dictionary those edited by it or by the standard one. Where a
-/// file was edited by the extract, a reader with the standard one may see more: it opens a sequence of known length
-/// whose tag the extract does not have, or that is unknown in an explicit file, which is one value to the extract, and
-/// in which nothing was edited.
+/// The dictionaries of the tools look into the same sequences of an output.
+///
+/// - The extract does so in explicit outputs, and each dictionary in what was edited with that dictionary or with the
+///   whole one.
+/// - After edits with the extract, a reader with the whole dictionary may look into more: a sequence of known length
+///   that the extract does not know, or that is UN in an explicit file.
 pub fn output_opens_alike()
     ensures explicit { ExplicitOpensAlike }
     ensures own { OwnOpensAlike }
     ensures standard { StandardOpensAlike }
 {}
 
-/// What was erased is gone for every reader from whom the values of the output hide nothing. It reads to its end. A
-/// value that is a sequence by its dictionary is then empty, and in an explicit output there is none. They hide nothing
-/// from one that opens the output alike.
+/// What dcmodify erased is gone for each reader from whom the values of the output hide no sequence.
+///
+/// - The reader reads the output to its end.
+/// - A value that is a sequence by the reader's dictionary is empty, and an explicit output has none.
+/// - Readers that look into the same sequences are such readers.
 pub fn output_erased_for_all()
     ensures erased_all { ErasedAllSeen }
     ensures erased_private { ErasedPrivateSeen }
     ensures alike { AlikeHidesNothing }
 {}
 
-/// dcmodify on its own output, with the same edits, writes the same bytes again. No edit erases an item by its number.
-/// So it is where the first run read a file without fault. The second one refuses nothing: its status is 0 or 3.
+/// dcmodify writes the same bytes again, if it runs on its own output with the same edits.
+///
+/// - The first input has no fault, and no edit erases an item by its number.
+/// - The status of the second run is 0 or 3.
 pub fn modified_twice()
     ensures { ModifiedTwice }
 {}
 
-/// Nothing of what dcmdeid takes out of a file is in its answer. Two files that are read without fault, of which the
-/// same meta elements stay, and whose data sets differ only in what is taken, have the same output, lines and status.
-/// Unique identifiers that get new ones may differ in their padding alone. So may a PatientID that gets a pseudonym, in
-/// front too; and dates that are moved, be it by other days, are moved to the same.
+/// What dcmdeid removes, empties or replaces by a fixed value has no influence on its output, its error lines and its
+/// status.
+///
+/// - Both files are read without fault, and the same elements of their meta groups are kept.
+/// - Old UIDs may differ in padding alone, and so may a PatientID that gets a pseudonym.
+/// - Dates that are shifted have the same shifted dates, even by different shifts.
 pub fn nothing_flows_in_answers()
     ensures { NothingFlows }
 {}
 
-/// The first reading of a file ends in one way, and in some.
+/// The first reading of a file by `+rm key` has exactly one result.
 pub fn first_reading_ends()
     ensures once { FirstEndsOnce }
     ensures some { FirstEnds }
 {}
 
-/// What the first reading of a file ends in is decided by the bytes that it reads. Where more bytes cannot change how the
-/// reading of these ends, that is the same for all files that begin with them. Of a file without fault it is the days of
-/// its outermost PatientID, or R17. It is R17 where there is none that is a value, and where that is padding alone, or
-/// too long. Its place is that at which a reading stops that goes up to PatientID and no further: where that stands,
-/// else the head above it, else the end of the file.
+/// The first reading of a file by `+rm key` gives the date shift of the file's patient, or the fault R17.
+///
+/// - The result depends only on the bytes that are read, whatever follows.
+/// - R17 stands for a file without a PatientID that names a patient: there is none, or only padding, or the value is
+///   too long.
+/// - The place of R17 is where a reading up to PatientID stops: at PatientID, else at the head above, else at the end
+///   of the file.
 pub fn first_reading_decides()
     ensures stays { FirstReadingStays }
     ensures decides { FirstReadingDecides }
 {}
 
-/// The days that the key makes of a file are those of the patient whom its outermost PatientID names. That is a whole
-/// value of the outermost data set, be the file read to its end or to a fault. So two files of one patient are moved by
-/// the same days under one key: 1 to 3,652 days into the past.
+/// All files of one patient have the same date shift under one key: 1 to 3,652 days into the past.
+///
+/// - The patient is the one whom the outermost PatientID names, in a whole value.
+/// - The file may have a fault behind PatientID.
 pub fn one_patient_one_move()
     ensures of_patient { DaysAreOfPatient }
     ensures of_outermost { DaysAreOfOutermost }
@@ -126,43 +149,50 @@ pub fn one_patient_one_move()
     ensures back { MovesBack }
 {}
 
-/// Nothing of what dcmdeid takes out of a file is in its answer where the key makes the days of each patient. Two such
-/// files may be of two patients, whose dates are moved by other days.
+/// With `+rm key`, what dcmdeid removes has no influence on its answer, also where two files are of two patients with
+/// different date shifts.
+///
+/// - The conditions are those of `nothing_flows_in_answers`.
 pub fn nothing_flows_by_key()
     ensures { NothingFlowsByKey }
 {}
 
-/// What dcmdeid writes of a file without fault is read without fault, by both dictionaries. Its transfer syntax is that
-/// of the input, its meta group is the one that was written anew of the elements that stay, and its data set is the
-/// normal form of the one without identity.
+/// The output of dcmdeid is a file that is read without fault, with either dictionary.
+///
+/// - The input has no fault.
+/// - The transfer syntax is that of the input, the meta group is new, and the data set is the one without identity.
 pub fn deidentified_reads()
     ensures { DeidentifiedReads }
 {}
 
-/// Nothing that dcmdeid took out of a file without fault is in its output, at any depth. What was made of a value is
-/// empty, an identifier, a pseudonym, or dates that there are, and may have a pad byte. So it is where the output is read
-/// again by the whole dictionary. However the output is read, it is read without fault.
+/// Nothing that dcmdeid removed is in its output, at any depth.
+///
+/// - The input has no fault, and the output is read again with the whole dictionary.
+/// - A new value is empty, an identifier, a pseudonym, or existing dates, perhaps with a pad byte.
 pub fn output_is_clean()
     ensures { OutputIsClean }
 {}
 
-/// Where head and data set named the same instance, they name the same one in the output of dcmdeid, padding set aside.
-/// So it is where unique identifiers are replaced, or the transfer syntax is not big endian.
+/// If the head and the data set of a file name the same instance, they do so in the output of dcmdeid.
+///
+/// - UIDs are replaced, or the transfer syntax is not big endian.
+/// - Padding does not count.
 pub fn instance_agrees()
     ensures { InstanceAgrees }
 {}
 
-/// dcmdeid on its own output, with the same options, writes the same bytes again. No value is made anew (unique
-/// identifiers are retained, and neither pseudonyms nor moved dates are asked for), and the first run is on a file
-/// without fault. The second one refuses nothing: its status is 0 or 3.
+/// dcmdeid writes the same bytes again, if it runs on its own output with the same options.
+///
+/// - UIDs are retained, without pseudonyms and shifted dates, and the first input has no fault.
+/// - The status of the second run is 0 or 3.
 pub fn deidentified_twice()
     ensures { DeidentifiedTwice }
 {}
 
-/// Dates that dcmdeid moves, moves back and moves again are as at first. It is run by `+rm N` on a file without fault,
-/// by `-N` on that output, and by `N` on the output of that, and writes what the first run wrote. Dates alone are made
-/// anew: unique identifiers are retained, and no pseudonyms are asked for. The last run refuses nothing: its status is
-/// 0 or 3.
+/// Dates that are shifted by `+rm N`, back by `-N`, and by `N` again are those after the first shift.
+///
+/// - The first input has no fault, UIDs are retained, and no pseudonyms are asked for.
+/// - The status of the last run is 0 or 3.
 pub fn there_and_back()
     ensures { ThereAndBack }
 {}

@@ -5,40 +5,48 @@ ghost use Rattle.dcm_table.specs.Laws.{AsciiAsBefore, MetaSetsNothing, MetaSettl
 ghost use Rattle.dcm_table.specs.Laws.{TableBarSteps, Utf8AsBefore, Utf8AsItIs};
 ghost use Rattle.dcm_table.specs.Shown.{table_bar, tabled};
 
-/// After the elements of a meta group the cells hold, of each column, the first of its tag. These elements set nothing.
+/// After the meta group, each cell has the first value of its tag.
+///
+/// - The meta group sets no character set.
 pub fn meta_steps()
     ensures steps { MetaSteps }
     ensures settles { MetaSettles }
     ensures sets { MetaSetsNothing }
 {}
 
-/// After what was read of a data set they hold the first of its tag, where there was none before, with what is in force
-/// at its head.
+/// After a data set, each cell has the first value of its tag at the outermost level, decoded by the character set in
+/// force.
+///
+/// - This holds where reading stops at a fault too.
 pub fn row_steps()
     ensures { RowSteps }
 {}
 
-/// The bar of the cells is that of heads above the greatest column.
+/// The sink of a row ends the reading exactly at the first outermost tag above all columns.
 pub fn table_bar_steps()
     ensures { TableBarSteps }
 {}
 
-/// The atoms so far say which heads are of the outermost level and above the greatest column.
+/// The atoms so far say which heads are outermost and above the greatest column.
 pub fn table_by_atoms()
     ensures { (greatest : Tag) → BarsAs (tabled greatest) (table_bar greatest) }
 {}
 
-/// A row is valid UTF-8, where that is asked.
+/// A row is valid UTF-8.
+///
+/// - Texts are decoded (without `+by`).
 pub fn row_is_valid()
     ensures { RowIsValid }
 {}
 
-/// A value of ASCII that designates nothing is written alike in each form: decoded as it would be without that.
+/// A cell of ASCII text is the same with and without decoding.
+///
+/// - The text has no escape sequence that designates a character set.
 pub fn ascii_as_before()
     ensures { AsciiAsBefore }
 {}
 
-/// Where UTF-8 is in force, a text is written as without character sets, also where bytes of it are no UTF-8.
+/// A cell of a file in UTF-8 is the same with and without decoding, also where bytes are not UTF-8.
 pub fn utf8_as_it_is()
     ensures valid { Utf8AsItIs }
     ensures any { Utf8AsBefore }

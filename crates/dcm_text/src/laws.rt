@@ -15,12 +15,12 @@ ghost use Rattle.dcm_text.specs.Laws.{IsUtf8InForce, is_plain, as_itself, ascii_
 ghost use Rattle.dcm_text.specs.Runs.{State, begun, joined, run, run_pieces};
 ghost use Rattle.dcm_text.specs.Shown.{dumped, cell, is_dumped};
 
-/// The bytes of the pieces, in order, are the text.
+/// Decoding a text loses no byte: the bytes of the decoded pieces, in order, are the text.
 pub fn nothing_is_lost()
     ensures { (sets : Sets) (kind : TextKind) (text : List ℕ) → flat_map (λ p. p.0) (decoded sets kind text) ≡ text }
 {}
 
-/// A text that comes in pieces is as it is as a whole, whatever the pieces.
+/// A text that comes in pieces is decoded as the whole text.
 pub fn pieces_do_not_matter()
     ensures whole { (sets : Sets) (kind : TextKind) (pieces : List (List ℕ))
         → (run_pieces (begun sets kind) pieces).0 ≡ decoded sets kind (concat pieces) }
@@ -29,7 +29,9 @@ pub fn pieces_do_not_matter()
         more) }
 {}
 
-/// A text of ASCII is its bytes, whatever is in force, where it designates nothing.
+/// A text of ASCII is decoded to itself, whatever character set is in force.
+///
+/// - The text has no escape sequence that designates a character set.
 pub fn ascii_as_before()
     ensures pieces { (sets : Sets) (kind : TextKind) (text : List ℕ) → list_all (is_plain sets) text ≡ true
         → decoded sets kind text ≡ map as_itself text }
@@ -39,7 +41,7 @@ pub fn ascii_as_before()
         → cell sets kind text ≡ text }
 {}
 
-/// By ISO_IR 192 a text in UTF-8 is its characters, each by its bytes.
+/// A text in UTF-8 is decoded to its own characters under ISO_IR 192.
 pub fn utf8_as_it_is()
     ensures named { IsUtf8InForce (sets_of (codes "ISO_IR 192")) }
     ensures characters { (sets : Sets) (kind : TextKind) (text : List ℕ) → IsUtf8InForce sets → all_scalars text ≡ true
@@ -50,19 +52,19 @@ pub fn utf8_as_it_is()
         → cell sets kind (encode_utf8_all text) ≡ encode_utf8_all text }
 {}
 
-/// One more set is named, and what was named stays so.
+/// Naming one more character set adds this set, and no other, to those that are named.
 pub fn each_set_is_kept()
     ensures { (flags : ℕ) (named other : Set) → has_flag (with_flag flags named) other
         ≡ ((place named == place other) || has_flag flags other) }
 {}
 
-/// In a set of one byte a character no two bytes are the same character.
+/// In a set of one byte for each character, no two bytes are the same character.
 pub fn one_to_one()
     ensures { (single : Single) (a b character : ℕ) → single_character single a ≡ Some character
         → single_character single b ≡ Some character → a ≡ b }
 {}
 
-/// What a dump and a cell show of a text is valid UTF-8, whatever is in force.
+/// What a dump and a cell show of a text is valid UTF-8, whatever character set is in force.
 pub fn shown_is_utf8()
     ensures dumped { (sets : Sets) (kind : TextKind) (text : List ℕ) → list_all is_byte text ≡ true
         → IsUtf8 (dumped sets kind text) }
@@ -70,7 +72,7 @@ pub fn shown_is_utf8()
         → IsUtf8 (cell sets kind text) }
 {}
 
-/// A display has no line break, no `]`, and nothing hidden. It is characters in UTF-8, whatever is in force.
+/// A display has no line break, no `]` and no hidden character, whatever character set is in force.
 pub fn display_is_plain()
     ensures { (sets : Sets) (kind : TextKind) (text : List ℕ) → list_all is_byte text ≡ true
         → StandsWithinBrackets (dumped sets kind text) }

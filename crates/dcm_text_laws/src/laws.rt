@@ -10,18 +10,17 @@ use dcm_base::DeviceOut;
 use dcm_files::System;
 use std::io::Read;
 
-/// What `dcmdump +u8` writes of a file, or of a data set alone, is valid UTF-8, whatever its bytes are. So is what
-/// stands written while more bytes may come.
+/// The output of `dcmdump +u8` is valid UTF-8, whatever the file holds, also while the input still comes.
 pub fn dump_is_utf8()
     ensures answer { AnswerIsUtf8 }
     ensures sure { SureIsUtf8 }
 {}
 
-/// What `dcmdump +u8` writes of several files in memory is valid UTF-8, with the headings, which have their names. So is
-/// what stands written at each time, where no writer failed: after each whole file, after each heading, and while more
-/// bytes of a file may come. Files may be such that could not be opened, or read to their ends. Over any system too,
-/// whose readers give bytes: what the output has grows by valid UTF-8 with each dump of a file, whatever could not be
-/// read of it, and with all of them, where the output did not fail.
+/// The output of `dcmdump +u8` of several files is valid UTF-8, with the names of the files.
+///
+/// - In memory: at each time, whatever could not be opened or read, as long as no writer failed.
+/// - Over any system whose readers give bytes: the output grows by valid UTF-8 with each file, as long as the output
+///   did not fail.
 pub fn dumps_are_utf8<S: System, W: DeviceOut>()
     ensures all { DumpsAreUtf8 }
     ensures so_far { DumpsSoFarAreUtf8 }
@@ -30,10 +29,12 @@ pub fn dumps_are_utf8<S: System, W: DeviceOut>()
     ensures left_of_all { DumpsGrowByUtf8 S.may_do S.Input.DeviceIn W.DeviceOut }
 {}
 
-/// What dcm2csv writes of files in memory is valid UTF-8, unless `+by` leaves texts as they are: the header, and the rows
-/// of all files with their names. So is what stands written after the header and after each row, where no writer failed.
-/// Files may be such that could not be opened, or read. Over any system too, whose readers give bytes: what the output
-/// has grows by valid UTF-8 with the header, with each row, and with all of them, where the output did not fail.
+/// The output of dcm2csv is valid UTF-8, with the names of the files.
+///
+/// - Texts are decoded (without `+by`).
+/// - In memory: at each time, whatever could not be opened or read, as long as no writer failed.
+/// - Over any system whose readers give bytes: the output grows by valid UTF-8 with the header and with each row, as
+///   long as the output did not fail.
 pub fn table_is_utf8<S: System, W: DeviceOut>()
     ensures all { TableIsUtf8 }
     ensures so_far { TableSoFarIsUtf8 }
@@ -43,22 +44,27 @@ pub fn table_is_utf8<S: System, W: DeviceOut>()
     ensures left_of_all { TableGrowsByUtf8 S.may_do S.Input.DeviceIn W.DeviceOut }
 {}
 
-/// The readers of the program give bytes: they are devices over readers of the standard library. So what `dumps_are_utf8`
-/// and `table_is_utf8` say over any system holds of the program.
+/// The readers of the program give bytes, so `dumps_are_utf8` and `table_is_utf8` hold of the program.
+///
+/// - The readers are those of the standard library.
 pub fn program_gives_bytes<T: Read>()
     ensures { GivesBytes (std_reader T.remaining) }
 {}
 
-/// The line of a text of bytes below 80 that designates nothing is in a dump by characters what it is in one without.
-/// So is that of a value that is no text. It is so whatever is in force, and whatever else is in its data set.
+/// The line of an ASCII text is the same in a dump with and without `+u8`, and so is the line of a value that is no
+/// text.
+///
+/// - The text has no escape sequence that designates a character set.
+/// - This holds whatever character set is in force, and whatever else is in the data set.
 pub fn ascii_lines_stay()
     ensures line { LineOfAscii }
     ensures among_others { LineOfAsciiAmongOthers }
 {}
 
-/// Where UTF-8 is in force, a text in UTF-8 without `%`, `]` and hidden characters is displayed by its bytes in
-/// brackets, without its pad byte. In full its line has all of that. It is a text of a representation that Specific
-/// Character Set is for.
+/// A text in UTF-8 is shown as its own characters, in brackets, where UTF-8 is in force.
+///
+/// - The text has no `%`, no `]` and no hidden character, and its VR is one that Specific Character Set is for.
+/// - The pad byte is not shown. A full dump shows all else.
 pub fn utf8_lines_are_as_they_are()
     ensures display { DisplayOfUtf8 }
     ensures line { LineOfUtf8 }
