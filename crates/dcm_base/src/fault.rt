@@ -28,7 +28,7 @@ pub enum Fault {
 }
 
 impl Fault {
-    /// The number by which it is told.
+    /// The number in the error line, such as `R7`.
     pub fn number(self) -> &'static str
         ensures { result.now ≡ spec.fault_number self }
     {
@@ -53,7 +53,7 @@ impl Fault {
         }
     }
 
-    /// The words by which it is told.
+    /// The text in the error line.
     pub fn text(self) -> &'static str
         ensures { result.now ≡ spec.fault_text self }
     {
@@ -97,7 +97,7 @@ pub enum LineFault {
 }
 
 impl LineFault {
-    /// The number by which it is told.
+    /// The number in the error line, such as `R7`.
     pub fn number(self) -> &'static str
         ensures { result.now ≡ spec.line_fault_number self }
     {
@@ -116,7 +116,7 @@ impl LineFault {
         }
     }
 
-    /// The words by which it is told.
+    /// The text in the error line.
     pub fn text(self) -> &'static str
         ensures { result.now ≡ spec.line_fault_text self }
     {
@@ -150,7 +150,7 @@ pub enum EditRefusal {
 }
 
 impl EditRefusal {
-    /// The number by which it is told.
+    /// The number in the error line, such as `R7`.
     pub fn number(self) -> &'static str
         ensures { result.now ≡ spec.edit_refusal_number self }
     {
@@ -165,7 +165,7 @@ impl EditRefusal {
         }
     }
 
-    /// The words by which it is told.
+    /// The text in the error line.
     pub fn text(self) -> &'static str
         ensures { result.now ≡ spec.edit_refusal_text self }
     {
@@ -197,7 +197,7 @@ pub enum WordFault {
 }
 
 impl WordFault {
-    /// The number by which it is told.
+    /// The number in the error line, such as `R7`.
     pub fn number(self) -> &'static str
         ensures { result.now ≡ spec.word_fault_number self }
     {
@@ -214,7 +214,7 @@ impl WordFault {
         }
     }
 
-    /// The words by which it is told.
+    /// The text in the error line.
     pub fn text(self) -> &'static str
         ensures { result.now ≡ spec.word_fault_text self }
     {
@@ -232,16 +232,16 @@ impl WordFault {
     }
 }
 
-/// A fault and the offset in bytes at which it is told.
+/// A fault, and the offset in bytes that the error line has.
 #[derive(Clone, Copy, Debug, PartialEq, Eq)]
 pub struct Stop {
     pub fault: Fault,
     pub at: u64,
 }
 
-/// Why lines that are built into a file are refused: a fault, the offset at which the line begins, and the number of
-/// the line; lines are counted from one. An input that ends too early is refused at its size, and one that is too long
-/// at the limit of an input, with no line.
+/// Why a line of a dump is refused: a fault, the offset at which the line begins, and the number of the line, from 1.
+/// An input that ends too early has the offset of its end, and an input that is too long the limit of an input, both
+/// without a line.
 #[derive(Clone, Copy, Debug, PartialEq, Eq)]
 pub struct LineStop {
     pub fault: LineFault,

@@ -14,7 +14,7 @@ pub enum Stopped<R> {
 }
 
 impl<R> Stopped<R> {
-    /// What a call answers, where this may have stopped it.
+    /// The answer of a call that may have stopped.
     pub fn answer(stopped: Option<Self>) -> Result<(), Self>
         ensures going { OnOk result (stopped ≡ None) }
         ensures value { result ≡ halts.answer (halts.stop_of stopped) (halts.is_output stopped) }

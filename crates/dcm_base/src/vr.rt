@@ -146,7 +146,7 @@ impl Vr {
         if self.is_text() { b' ' } else { 0 }
     }
 
-    /// Its two letters.
+    /// The two letters of a VR.
     #[tactic(auto, unfolding(crate::specs::Tables::Representation::letters))]
     pub fn letters(self) -> [u8; 2]
         ensures { result ≡ spec.letters self }

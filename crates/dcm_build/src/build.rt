@@ -66,7 +66,7 @@ impl Builder {
         Stopped::answer(self.halt)
     }
 
-    /// The input ends. Where that is no fault, the file is whole.
+    /// Takes note that the input ends. If this is no fault, the file is complete.
     pub fn finish<W: DeviceOut>(&mut self, out: &mut Watched<W>) -> Result<(), BuildHalt>
         ensures wrote { outputs.Finished W.DeviceOut out.old out.new self.old self.new steps.finish_writes }
         ensures state { self.new.failed ≡ false → self.new.state ≡ steps.finishes self.old.state }

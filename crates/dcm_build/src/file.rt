@@ -357,7 +357,7 @@ impl NewFile {
         Ok(())
     }
 
-    /// The input ends.
+    /// Takes note that the input ends.
     pub fn finish<W: DeviceOut>(&mut self, out: &mut Watched<W>) -> Result<(), LineHalt>
         ensures { outputs.Ended W.DeviceOut out.old out.new self.old self.new result }
     {
@@ -369,7 +369,7 @@ impl NewFile {
         }
     }
 
-    /// Nothing was built.
+    /// A file of which nothing was built yet.
     pub fn new() -> Self
         ensures { outputs.IsNew result }
     {

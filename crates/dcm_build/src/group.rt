@@ -104,7 +104,7 @@ impl NewGroup {
         size > META_LIMIT - self.spelled.len()
     }
 
-    /// One element more.
+    /// Adds an element.
     pub fn push(&mut self, tag: Tag, vr: Vr, value: &[u8])
         requires group { tag.group ≡ META_GROUP }
         requires form { form Little vr (Known (length value.now)) ≡ a_value }
@@ -126,7 +126,7 @@ impl NewGroup {
         without_pads(syntax_value(self.spelled.as_slice()))
     }
 
-    /// The coding that it means.
+    /// The coding that the transfer syntax in the group means.
     pub fn coding(&self) -> Option<Coding>
         ensures { result ≡ named_coding (trees_of self.now) }
     {

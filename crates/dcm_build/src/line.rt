@@ -54,12 +54,12 @@ pub enum Step<'a> {
 /// What a line means.
 #[derive(Clone, Copy, Debug, PartialEq, Eq)]
 pub enum Meaning<'a> {
-    /// It is blank, or a comment.
+    /// The line is blank, or a comment.
     Nothing,
     Step(Step<'a>),
-    /// It is a comment that says that texts are shown as characters.
+    /// The line is a comment which says that the dump shows texts as characters.
     ByCharacters,
-    /// It is no line of a dump.
+    /// The line is no line of a dump.
     NoLine,
 }
 

@@ -13,8 +13,8 @@ use bstr::ByteSlice;
 use dcm_base::{DeviceOut, LINE_LIMIT, LineFault, LineStop, Stopped, Watched};
 use dcm_stream::INPUT_LIMIT;
 
-/// What the lines so far have built, the bytes of the line that has not ended, how many it may have, where it begins,
-/// and which it is.
+/// A reader of lines: what the lines so far have built, the bytes of a line that has not ended, the most bytes of a
+/// line, and the offset and the number of the line.
 #[derive(Drop)]
 pub struct LineReader {
     pub file: NewFile,
@@ -161,7 +161,7 @@ impl LineReader {
         Ok(())
     }
 
-    /// The input ends here: the last line ends, and the file is closed where it may be.
+    /// Takes note that the input ends: the last line ends, and the file is closed if it may be.
     pub fn end<W: DeviceOut>(&mut self, out: &mut Watched<W>) -> Result<(), BuildHalt>
         requires { spec.Stands (spec.line_at self.old) }
         ensures reached { outputs.Reached W.DeviceOut out.old out.new self.old self.new steps.finishes

@@ -13,13 +13,13 @@ use std::io;
 pub enum NoDays {
     /// The file cannot be opened.
     Unopened,
-    /// Opening it wants memory.
+    /// Opening the file needs memory that was refused.
     Memory,
-    /// It is no regular file, which could be read twice.
+    /// The file is no regular one, so it cannot be read twice.
     NotRegular,
-    /// Reading it failed after so many bytes.
+    /// Reading the file failed after this number of bytes.
     Unread(u64),
-    /// It is at fault, or names no patient.
+    /// The file has a fault, or names no patient.
     Refused(Stop),
 }
 
@@ -54,7 +54,7 @@ fn days_of(end: FirstEnd) -> Result<i32, NoDays>
     }
 }
 
-/// Opens a file, reads it as far as its patient, and gives it back.
+/// Opens a file, reads it up to its PatientID, and gives the file back.
 pub fn take_days<S: System>(system: &mut S, path: &[u8], key: &[u8]) -> Result<i32, NoDays>
     ensures { spec.TakesDays S.may_do S.Input.DeviceIn path.now key.now system.old result system.new }
 {

@@ -6,12 +6,12 @@ ghost use Rattle.dcm_cli.specs.Remarks as remarks;
 use dcm_base::{LineStop, Stop, Stopped};
 use dcm_stream::Halt;
 
-/// What the work on a job came to, where no device failed.
+/// How a job ended, if no device failed.
 #[derive(Clone, Copy, Debug, PartialEq, Eq)]
 pub enum Verdict {
     /// All was done, except the edits that found no place: bit k is set for edit k, counted from 0.
     Done { unplaced: u64 },
-    /// All was done, and a value that was written says that pixels show identity.
+    /// The job is done, and a value in the output says that the pixels show identity.
     PixelsMayShow,
     /// The input is refused.
     Refused(Stop),
@@ -30,15 +30,15 @@ pub enum Ending {
     Output,
 }
 
-/// What is remarked of an input as far as it was read. It changes no status.
+/// What is told of an input without a change of the status, as far as the input was read.
 #[derive(Clone, Copy, Debug, PartialEq, Eq)]
 pub struct Remarks {
-    /// How many dates that were moved have nothing left.
+    /// How many shifted dates became empty.
     pub emptied: u64,
 }
 
 impl Remarks {
-    /// Nothing is.
+    /// Nothing to tell.
     pub const NONE: Remarks = Remarks { emptied: 0 };
 }
 
@@ -71,7 +71,7 @@ pub fn ending_of(answer: Result<(), Halt>) -> Ending
     }
 }
 
-/// A job ended so, and remarked nothing.
+/// The ending of a job with nothing to tell of the input.
 pub fn remarking_nothing(ending: Ending) -> Ended
     ensures { result ≡ remarks.remarking_nothing ending }
 {

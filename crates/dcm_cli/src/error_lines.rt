@@ -131,7 +131,7 @@ pub fn tell_same<E: DeviceOut>(errors: &mut Watched<E>) -> u8
     DEVICE
 }
 
-/// Reports that the output is there and stays, and answers the status.
+/// Reports that the output exists and is not changed, and answers the status.
 pub fn tell_there<E: DeviceOut>(errors: &mut Watched<E>) -> u8
     ensures line { calls.Reports E.DeviceOut errors.old errors.new spec.there_line }
     ensures status { result ≡ statuses.DEVICE }
@@ -140,7 +140,7 @@ pub fn tell_there<E: DeviceOut>(errors: &mut Watched<E>) -> u8
     DEVICE
 }
 
-/// Reports that what is written until the output is whole is there, and answers the status.
+/// Reports that the temporary file of the output exists, and answers the status.
 pub fn tell_part<E: DeviceOut>(errors: &mut Watched<E>) -> u8
     ensures line { calls.Reports E.DeviceOut errors.old errors.new spec.part_line }
     ensures status { result ≡ statuses.DEVICE }
@@ -222,7 +222,7 @@ pub fn tell_pixels<E: DeviceOut>(errors: &mut Watched<E>)
     );
 }
 
-/// Writes how many dates that were moved have nothing left, where there are some.
+/// Writes how many shifted dates became empty, if there are any.
 pub fn put_emptied<E: DeviceOut>(count: u64, errors: &mut Watched<E>) -> Result<(), WriteFailed>
     ensures { Wrote E.DeviceOut errors.old errors.new (spec.emptied_lines count) result }
 {

@@ -23,11 +23,11 @@ const PIECE: usize = 4096;
 /// How the first reading of a file ends.
 #[derive(Clone, Copy, Debug, PartialEq, Eq)]
 pub enum FirstEnd {
-    /// It names a patient, whose dates are moved by so many days.
+    /// The file names a patient, whose dates are shifted by this number of days.
     Days(i32),
-    /// It is refused: it is at fault, or names nobody.
+    /// The file is refused: it has a fault, or names nobody.
     Refused(Stop),
-    /// Reading failed after so many bytes.
+    /// Reading failed after this number of bytes.
     Unread(u64),
 }
 
@@ -279,8 +279,7 @@ fn read_first<R: DeviceIn>(key: &[u8], input: &mut Watched<R>, buffer: &mut [u8]
     search_set(key, beginning, coding, start, input, buffer)
 }
 
-/// The first reading of a file: by how many days its dates are moved under a key. It reads no further once that is
-/// decided.
+/// Reads a file for the first time: by how many days a key shifts its dates. The reading ends once this is decided.
 pub fn first_reading<R: DeviceIn>(key: &[u8], input: &mut Watched<R>) -> FirstEnd
     ensures { spec.ReadsFirst R.DeviceIn input.old input.new key.now result }
 {

@@ -17,17 +17,17 @@ pub type KeyBytes = ArrayVec<u8, MOST_OF_KEY>;
 /// Why there is no key.
 #[derive(Clone, Copy, Debug, PartialEq, Eq)]
 pub enum NoKey {
-    /// It cannot be opened.
+    /// The key cannot be opened.
     Unopened,
-    /// Opening it wants memory.
+    /// Opening the key needs memory that was refused.
     Memory,
-    /// Reading it failed.
+    /// Reading the key failed.
     Unread,
-    /// It has too few bytes, or too many.
+    /// The key has too few bytes, or too many.
     Size,
 }
 
-/// A key that was read, and what it was read of.
+/// A key that was read, and the file that it was read from.
 #[derive(Drop)]
 pub struct KeyRead {
     pub bytes: KeyBytes,

@@ -36,7 +36,7 @@ pub mod first;
 pub mod head;
 /// Runs over memory.
 pub mod in_memory;
-/// The key of all that dcmdeid makes anew.
+/// The key of all new values of dcmdeid.
 pub mod key;
 /// Laws of the definitions.
 pub mod laws;

@@ -77,7 +77,7 @@ fn modify_file<R: DeviceIn, W: DeviceOut>(
     read_edited(edits, opened, input, buffer, &mut sink)
 }
 
-/// Writes a file, which is read by a dictionary, as the edits make it.
+/// Writes a file with the edits. The file is read with a dictionary.
 #[inline(never)]
 pub fn modify<R: DeviceIn, W: DeviceOut>(
     modify: &Modify,

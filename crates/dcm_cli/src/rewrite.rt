@@ -37,9 +37,9 @@ pub struct Opened {
 /// How the head of a file is written again.
 #[derive(Drop)]
 pub enum NewHead<'a> {
-    /// As it is, but for its transfer syntax.
+    /// All elements are kept, but the transfer syntax may be another one.
     AsItIs,
-    /// Without identity.
+    /// The elements without identity are kept.
     WithoutIdentity(MetaWithoutIdentity<'a>),
 }
 

@@ -46,7 +46,7 @@ pub fn days_of_month(year: u32, month: u32) -> u32
     }
 }
 
-/// The days of the years before one.
+/// The days of all years before a year.
 #[tactic(auto, unfolding(crate::specs::Calendar::days_before))]
 pub fn days_before(year: u32) -> u32
     requires first { 1 ≤ year }
@@ -57,7 +57,7 @@ pub fn days_before(year: u32) -> u32
     YEAR * past + past / 4 - past / 100 + past / 400
 }
 
-/// The days of the months of a year before one.
+/// The days of a year before a month.
 pub fn days_before_month(year: u32, month: u32) -> u32
     requires first { 1 ≤ month }
     requires last { month ≤ 12 }
@@ -70,14 +70,14 @@ pub fn days_before_month(year: u32, month: u32) -> u32
     days
 }
 
-/// A year, and how many days of it are past at the end of one of its days.
+/// A year, and the number of a day in it, from 1.
 #[derive(Clone, Copy)]
 pub struct DayOfYear {
     pub year: u32,
     pub day: u32,
 }
 
-/// The year of the day that has a number, and which of its days it is.
+/// The year of the day that has a number, and the number of this day in the year.
 pub fn day_of_year(number: u32) -> DayOfYear
     requires first { 1 ≤ number }
     requires last { number ≤ 3652059 }

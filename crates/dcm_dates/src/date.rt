@@ -37,7 +37,7 @@ fn day_of_month(year: u32, day_of_year: u32) -> DayOfMonth
 }
 
 impl Date {
-    /// Whether there is such a day, in a year from 1 to 9999.
+    /// Whether the date exists, in a year from 1 to 9999.
     pub fn is_day(&self) -> bool
         ensures { result ≡ spec.is_day self.now }
     {

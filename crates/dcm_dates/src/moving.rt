@@ -97,8 +97,8 @@ fn add_parts(
     add_part(kind, days, rest, out)
 }
 
-/// A text without padding with all its dates moved by days, or nothing where one of them cannot be moved, or the text
-/// is longer than is held.
+/// A text without padding with all its dates shifted by a number of days. The result is empty if one of the dates
+/// cannot be shifted, or if the text has more than `MOST_HELD` bytes.
 pub fn moved(kind: DateKind, days: i32, text: &[u8]) -> ArrayVec<u8, MOST_HELD>
     ensures { result.items ≡ spec.moved kind days text.now }
 {

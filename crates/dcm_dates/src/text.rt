@@ -211,7 +211,7 @@ fn is_after_hours(text: &[u8]) -> bool
     }
 }
 
-/// Whether this may follow the date of a DT: perhaps HH, HHMM, HHMMSS or HHMMSS.F, and then perhaps the distance from
+/// Whether a text may follow the date of a DT: perhaps HH, HHMM, HHMMSS or HHMMSS.F, and then perhaps the offset from
 /// UTC.
 pub fn is_rest(text: &[u8]) -> bool
     ensures { result ≡ spec.is_rest text.now }

@@ -29,12 +29,12 @@ const RECOGNIZABLE: Tag = Tag {
     element: 0x0302,
 };
 
-/// What was seen of values that ended.
+/// What the values that have ended showed.
 #[derive(Clone, Copy, Debug, PartialEq, Eq)]
 pub struct Seen {
-    /// Whether one that was written says that the pixels may show identity.
+    /// Whether a value that was written says that the pixels may show identity.
     pub may_show: bool,
-    /// How many were of dates that were moved, and had nothing left.
+    /// How many shifted dates became empty.
     pub emptied: u64,
 }
 
@@ -243,7 +243,7 @@ impl Deidentifier {
         }
     }
 
-    /// Counts dates that were moved and have nothing left.
+    /// Counts dates that became empty.
     pub fn count(&mut self, is_one: bool)
         ensures { deidentifying.place self.new ≡ spec.counting (deidentifying.place self.old) is_one }
     {

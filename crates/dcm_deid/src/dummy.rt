@@ -4,7 +4,7 @@ ghost use Rattle.dcm_deid.specs.Deidentify as spec;
 
 use dcm_base::Vr;
 
-/// The value that is put for another one, without padding; an unknown one has none.
+/// The fixed value that replaces a value of a VR, without padding. UN has none.
 #[tactic(auto, unfolding(crate::specs::Deidentify::dummy))]
 pub fn dummy(vr: Vr) -> &'static [u8]
     ensures value { result.now ≡ spec.dummy vr }

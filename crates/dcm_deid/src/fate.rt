@@ -34,21 +34,21 @@ pub const PATIENT_ID: Tag = Tag {
     element: 0x0020,
 };
 
-/// What a value is that is made anew.
+/// The kinds of values for which new values are made.
 #[derive(Clone, Copy, Debug, PartialEq, Eq)]
 pub enum NewValue {
-    /// A unique identifier, which becomes another one.
+    /// A UID, which gets a new UID.
     Uid,
-    /// A PatientID, which becomes a pseudonym.
+    /// A PatientID, which gets a pseudonym.
     Pseudonym,
-    /// Dates, which are moved.
+    /// Dates, which are shifted.
     MovedDate,
-    /// Dates with times, which are moved.
+    /// Dates with times, which are shifted.
     MovedDateTime,
 }
 
 impl NewValue {
-    /// Whether its dates are moved.
+    /// Whether the value is one of dates, which are shifted.
     pub fn is_moved(self) -> bool
         ensures { result ≡ emptied.is_moved self }
     {
@@ -56,33 +56,33 @@ impl NewValue {
     }
 }
 
-/// What becomes of an element.
+/// The action for an element (PS3.15 E.1).
 #[derive(Clone, Copy, Debug, PartialEq, Eq)]
 pub enum Fate {
-    /// It goes.
+    /// The element is removed.
     Remove,
-    /// Its head stays, with no value.
+    /// The element is kept with an empty value.
     Empty,
-    /// Its head stays, with a value that is the same for all.
+    /// The element is kept with a fixed value.
     Replace,
-    /// Its head stays, with a value that is made of the old one.
+    /// The element is kept with a new value, made of the old one.
     Anew(NewValue),
-    /// It stays as it is.
+    /// The element is kept with its value.
     Keep,
 }
 
-/// What becomes of dates and times (PS3.15 E.3.6).
+/// What is done with dates and times (PS3.15 E.3.6).
 #[derive(Clone, Copy, Debug, PartialEq, Eq)]
 pub enum Temporal {
-    /// They go.
+    /// Dates and times are removed.
     Removed,
-    /// They stay.
+    /// Dates and times are kept.
     Full,
-    /// They stay, their dates moved by so many days.
+    /// Times are kept, and dates are shifted by this number of days.
     Modified(i32),
 }
 
-/// The options that keep more (PS3.15 E.3), each given or not.
+/// The options of a de-identification (PS3.15 E.3): what is retained, and whether pseudonyms are made.
 #[derive(Clone, Copy, Debug, PartialEq, Eq)]
 pub struct Options {
     /// Retain UIDs.
@@ -95,7 +95,7 @@ pub struct Options {
     pub patient: bool,
     /// Retain Longitudinal Temporal Information, Full Dates or Modified Dates.
     pub dates: Temporal,
-    /// PatientID becomes a pseudonym.
+    /// Whether each PatientID becomes a pseudonym.
     pub pseudonyms: bool,
 }
 
@@ -124,7 +124,7 @@ pub enum ReadAs {
 }
 
 impl Temporal {
-    /// Whether dates stay as they are.
+    /// Whether dates are kept.
     pub fn are_full(&self) -> bool
         ensures { result ≡ spec.are_full self.now }
     {
@@ -134,7 +134,7 @@ impl Temporal {
         }
     }
 
-    /// Whether dates are moved.
+    /// Whether dates are shifted.
     pub fn are_modified(&self) -> bool
         ensures { result ≡ spec.are_modified self.now }
     {
@@ -144,7 +144,7 @@ impl Temporal {
         }
     }
 
-    /// Whether dates stay or are moved.
+    /// Whether dates are kept or shifted.
     pub fn are_left(&self) -> bool
         ensures { result ≡ spec.are_left self.now }
     {
@@ -360,9 +360,9 @@ fn looked_up(options: &Options, depth: Depth, read: ReadAs, tag: Tag) -> Fate
     }
 }
 
-/// What becomes of an element (PS3.15 table E.1-1), by the options that are given, where it is, and how it was read.
-/// What the dictionary of the standard does not have is removed. Of an element that is always kept, as most are, one
-/// number is looked at, in place of the rows of the dictionary and of the table.
+/// The action for an element (PS3.15 table E.1-1), by the options, the depth of the element, and how it was read. An
+/// element that is not in the whole dictionary is removed. For an element that is always kept, as most are, one number
+/// is looked at, and neither the dictionary nor the table.
 #[inline(always)]
 pub fn fate_of(options: &Options, depth: Depth, read: ReadAs, tag: Tag) -> Fate
     ensures { result ≡ spec.fate_as options.now depth read tag }

@@ -36,7 +36,7 @@ fn copied(bytes: &ArrayVec<u8, MOST_HELD>) -> ArrayVec<u8, MOST_HELD>
 }
 
 impl HeldValue {
-    /// A value that begins.
+    /// The value of an element of which no byte has come.
     pub fn new(fate: Fate, tag: Tag, vr: Vr, syntax: Syntax) -> HeldValue
         ensures { held result ≡ spec.nothing_held fate tag vr syntax }
     {
@@ -61,7 +61,7 @@ impl HeldValue {
         }
     }
 
-    /// More bytes.
+    /// Adds bytes.
     pub fn add(&mut self, bytes: &[u8])
         ensures { held self.new ≡ fold spec.held_with (held self.old) bytes.now }
     {
@@ -81,7 +81,7 @@ impl HeldValue {
         value
     }
 
-    /// What takes its place, of an even number of bytes, where it is a value that is made anew.
+    /// The new value, padded to an even number of bytes.
     pub fn new_value(&self, options: &Options, key: &UidKey) -> ArrayVec<u8, MOST_HELD>
         ensures { result.items ≡ spec.new_of (made_new options.now key.now.bytes.now) (held self.now) }
     {
@@ -94,7 +94,7 @@ impl HeldValue {
         key.made_whole(options, made, self.vr, self.ordered().as_slice())
     }
 
-    /// Whether it is of dates that are moved, has more than padding, and nothing takes its place.
+    /// Whether the value is of dates that are shifted, has more than padding, and becomes empty.
     pub fn is_emptied(&self, options: &Options) -> bool
         ensures { result ≡ spec.is_emptied options.now (held self.now) }
     {
@@ -105,7 +105,7 @@ impl HeldValue {
         made.is_moved() && (self.is_longer || vanish(options, made, self.ordered().as_slice()))
     }
 
-    /// Whether it is YES.
+    /// Whether the value is YES.
     pub fn is_yes(&self) -> bool
         ensures { result ≡ spec.is_yes (held self.now) }
     {

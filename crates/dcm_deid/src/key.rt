@@ -52,7 +52,7 @@ fn come_to_nothing(options: &Options, made: NewValue, dates: &[u8]) -> bool
     }
 }
 
-/// Whether dates that have more than padding vanish.
+/// Whether dates become empty that have more than padding.
 pub fn vanish(options: &Options, made: NewValue, value: &[u8]) -> bool
     ensures { result ≡ sink.vanish options.now made value.now }
 {
@@ -79,14 +79,14 @@ impl<'a> UidKey<'a> {
         }
     }
 
-    /// What takes the place of a unique identifier, without padding.
+    /// The new UID for a UID, without padding.
     pub fn new_value(&self, value: &[u8]) -> ArrayVec<u8, MOST_OF_UID>
         ensures { result.items ≡ spec.new_value self.now.bytes.now value.now }
     {
         new_value(&self.prepared, value)
     }
 
-    /// What takes the place of a value that is made anew, without padding.
+    /// The new value for a value, without padding.
     pub fn made_new(
         &self,
         options: &Options,
@@ -104,7 +104,7 @@ impl<'a> UidKey<'a> {
         }
     }
 
-    /// The same of an even number of bytes, as a value of this representation is padded.
+    /// The new value for a value, padded to an even number of bytes by its VR.
     pub fn made_whole(
         &self,
         options: &Options,

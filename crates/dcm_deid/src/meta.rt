@@ -11,14 +11,14 @@ use dcm_head::{MetaElement, PREAMBLE, Renewal, Renewed};
 /// The preamble of a file without identity.
 pub const NO_PREAMBLE: [u8; PREAMBLE] = [0; PREAMBLE];
 
-/// What becomes of a meta element.
+/// The action for an element of the meta group.
 #[derive(Clone, Copy, Debug, PartialEq, Eq)]
 pub enum MetaFate {
-    /// It goes.
+    /// The element is removed.
     Remove,
-    /// It stays as it is.
+    /// The element is kept with its value.
     Keep,
-    /// It stays with a new unique identifier.
+    /// The element is kept with a new UID.
     Uid,
 }
 
@@ -46,7 +46,7 @@ pub struct MetaWithoutIdentity<'a> {
 }
 
 impl<'a> MetaWithoutIdentity<'a> {
-    /// The key is that of new unique identifiers.
+    /// A meta group without identity. The key is that of new UIDs.
     pub fn new(options: Options, key: &'a [u8]) -> Self
         ensures options { result.options ≡ options }
         ensures key { result.key.bytes.now ≡ key.now }

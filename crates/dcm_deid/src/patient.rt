@@ -90,20 +90,21 @@ impl Sink for UpToPatient {
     }
 }
 
-/// How far the naming of the patient has come.
+/// How far the reading of PatientID has come.
 #[derive(Clone, Copy, Debug, PartialEq, Eq)]
 pub enum Naming {
     /// PatientID may still come.
     NotYet,
-    /// Its value is open.
+    /// The value of PatientID is open.
     Opened,
-    /// Its value is whole.
+    /// The value of PatientID is whole.
     Ended,
-    /// It has no value, or an element comes in its place that belongs after it.
+    /// PatientID has no value, or an element comes that belongs behind it.
     Nobody,
 }
 
-/// A sink that holds the value of PatientID at the outermost level. It bars nothing, and takes no more once it knows.
+/// A sink that holds the value of PatientID at the outermost level. It refuses nothing. Once the value is whole, it
+/// takes no more.
 #[derive(Drop)]
 pub struct PatientSink {
     skip: Skip,
@@ -146,7 +147,7 @@ impl PatientSink {
         }
     }
 
-    /// How far the naming of the patient has come.
+    /// How far the reading of PatientID has come.
     pub fn naming(&self) -> Naming
         ensures { result ≡ self.now.naming }
     {

@@ -53,7 +53,8 @@ const CODE_MEANING: Tag = Tag {
     element: 0x0104,
 };
 
-/// Where the outermost data set is: after the element of one tag and before that of another, if there are such.
+/// A place in the outermost data set: behind the element of one tag and before that of another, if there are such
+/// elements.
 #[derive(Clone, Copy)]
 pub struct Gap {
     pub last: Option<Tag>,
@@ -259,7 +260,7 @@ fn put_dates_due<S: Sink>(options: &Options, gap: Gap, sink: &mut S) -> Result<(
     Ok(())
 }
 
-/// Passes on the elements that say what was done and belong in a gap of the outermost data set.
+/// Passes on the elements that record the de-identification and belong into a gap of the outermost data set.
 #[inline(never)]
 pub fn put_said<S: Sink>(options: &Options, gap: Gap, sink: &mut S) -> Result<(), WriteFailed>
     ensures { sinks.Took S.Sink sink.old sink.new (spec.said_between options.now gap.last gap.next) result }

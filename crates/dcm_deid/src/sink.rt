@@ -37,14 +37,14 @@ const ENCAPSULATED_DOCUMENT: Tag = Tag {
     element: 0x0011,
 };
 
-/// Whether identity cannot be taken out of an element of this tag.
+/// Whether identity cannot be removed from an element of this tag.
 pub fn holds_identity(tag: Tag) -> bool
     ensures { result ≡ bars.holds_identity tag }
 {
     tag == DIRECTORY_RECORDS || tag == ENCAPSULATED_DOCUMENT
 }
 
-/// Passes on what says what was done, at the outermost level, before an element of this tag or at the end.
+/// Passes on the elements that record the de-identification, before an element of the outermost level or at the end.
 #[inline(always)]
 pub fn put_gap<S: Sink>(
     options: &Options,
@@ -92,7 +92,7 @@ fn put_empty_sequence<S: Sink>(head: Head, sink: &mut S) -> Result<(), WriteFail
     sink.take(Token::CloseSeq)
 }
 
-/// Passes on what an element becomes, as far as its head determines it.
+/// Passes on what the head of an element becomes.
 #[inline(always)]
 pub fn put_head<S: Sink>(
     fate: Fate,
@@ -132,7 +132,8 @@ fn pass_as<S: Sink>(
     put_head(fate, form, head, syntax, sink)
 }
 
-/// The same, and goes on after the head: the fate of the element is looked up once for both.
+/// Passes on what the head of an element becomes, and notes the head. The action for the element is looked up once for
+/// both.
 #[inline(always)]
 pub fn pass_on_element<S: Sink>(
     options: &Options,
@@ -153,7 +154,7 @@ pub fn pass_on_element<S: Sink>(
     Ok(())
 }
 
-/// Passes on a token that is passed on as it is, but within what is left out.
+/// Passes on a token unchanged, but not within an element that is left out.
 #[inline(always)]
 pub fn put_plain<S: Sink>(
     place: &Deidentifier,
@@ -171,7 +172,8 @@ pub fn put_plain<S: Sink>(
     sink.take(token)
 }
 
-/// Passes on the head of an item, but within what is left out. Its length counts what is taken out of it.
+/// Passes on the head of an item, but not within an element that is left out. The length that the head declares still
+/// counts what is removed from the item.
 #[inline(always)]
 pub fn put_item<S: Sink>(place: &Deidentifier, sink: &mut S) -> Result<(), WriteFailed>
     ensures { (options : Options) (key : List ℕ) (declared : Length) → sinks.Took S.Sink sink.old sink.new
@@ -197,7 +199,7 @@ fn put_open_end<S: Sink>(
     sink.take(Token::End)
 }
 
-/// Passes on the end of a data set, but within what is left out.
+/// Passes on the end of a data set, but not within an element that is left out.
 #[inline(always)]
 pub fn put_end<S: Sink>(
     options: &Options,
@@ -246,7 +248,7 @@ fn put_made<S: Sink>(
     }
 }
 
-/// Passes on the end of a value: of one that is left out what is made of it.
+/// Passes on the end of a value. For a value that is left out, passes on its new value.
 #[inline(always)]
 pub fn put_value_end<S: Sink>(
     options: &Options,
@@ -275,7 +277,7 @@ pub struct DeidentifySink<'a, S> {
 }
 
 impl<'a, S: Sink> DeidentifySink<'a, S> {
-    /// The key is that of all that is made anew: unique identifiers, and pseudonyms.
+    /// A sink without identity before another sink. The key is that of new UIDs and pseudonyms.
     pub fn new(options: Options, key: &'a [u8], inner: &'a mut S) -> Self
         ensures same_reference { result.inner.ghost_name ≡ inner.entry.ghost_name }
         ensures inner { result.inner.now ≡ inner.old }
@@ -297,7 +299,7 @@ impl<'a, S: Sink> DeidentifySink<'a, S> {
         self.place.seen.may_show
     }
 
-    /// How many values of dates that were moved have nothing left. As many as fit are counted.
+    /// How many values of shifted dates became empty. The count stops at the greatest number of 64 bits.
     pub fn dates_emptied(&self) -> u64
         ensures { result ≡ (deidentifying.place self.now.place).seen.emptied }
     {

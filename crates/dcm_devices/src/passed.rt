@@ -4,8 +4,8 @@ ghost use Rattle.std.specs.Borrow.{ftrue};
 
 use std::marker::{Model, PhantomData};
 
-/// The bytes that a reader gave or a writer took, one call after another, and whether a flush came after them. They are
-/// known in proofs alone, and take no memory.
+/// The bytes that a reader gave or a writer took, one call after another, and whether a flush came after them. Only
+/// proofs know them, and they take no memory.
 #[derive(Drop)]
 pub struct Passed {
     marker: PhantomData<u8>,

@@ -22,7 +22,7 @@ use dcm_head::Meta;
 use dcm_names::{put_clash, put_fault, put_unread};
 use dcm_words::Dump;
 
-/// What shows files, one after another.
+/// Shows files, one after another.
 #[derive(Drop)]
 pub struct DumpWork {
     dump: Dump,
@@ -35,7 +35,7 @@ pub struct DumpWork {
 }
 
 impl DumpWork {
-    /// Before the first name. The output is on this, and so many names come, where that is known.
+    /// Before the first file. It knows what the output was opened on, and how many names come, if this is known.
     pub fn new(dump: Dump, output: FileKind, total: Option<u64>) -> DumpWork
         ensures manner { work_spec.manner result ≡ record { job = dump_job dump; output = output; total = total } }
         ensures number { result.number ≡ 0 }
@@ -158,8 +158,8 @@ impl<I: DeviceIn, W: DeviceOut> FileWork<I, W> for DumpWork {
     }
 }
 
-/// Writes the headings and dumps of all names. The output is on this. Answers the greatest status. Fails where the output
-/// fails; nothing more is opened then.
+/// Writes the headings and dumps of all files, and answers the greatest status. Fails where the output fails; then no
+/// more files are opened.
 pub fn show_dumps<S: System, W: DeviceOut, E: DeviceOut>(
     plan: DumpsPlan,
     output: FileKind,

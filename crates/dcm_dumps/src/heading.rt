@@ -28,7 +28,7 @@ fn of_total(total: Option<u64>, digits: &mut Buffer) -> (&'static [u8], &[u8])
     }
 }
 
-/// Writes the heading of a file: the number of its name, of how many where that is known, and the name.
+/// Writes the heading of a file: its number, the number of files if this is known, and the name.
 pub fn put_heading<W: DeviceOut>(
     is_first: bool,
     number: u64,

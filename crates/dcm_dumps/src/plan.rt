@@ -22,7 +22,7 @@ pub struct DumpsPlan<'a> {
 /// Why no dumps of several files follow from the words of a command line.
 #[derive(Clone, Copy, Debug, PartialEq, Eq)]
 pub enum DumpsUsage {
-    /// They are refused as those of one file may be.
+    /// The words are refused for a cause that words for one file may have.
     Words(Usage),
     /// Standard input is named twice.
     StandardTwice,

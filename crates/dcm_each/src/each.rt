@@ -163,7 +163,7 @@ fn do_name<S: System, W: DeviceOut, E: DeviceOut, K: FileWork<S::Input, W>>(
     }
 }
 
-/// Does all names. Answers the greatest status. After a failure of the output nothing more is opened.
+/// Does the files of all names, and answers the greatest status. Where the output fails, no more files are opened.
 pub fn do_all<S: System, W: DeviceOut, E: DeviceOut, K: FileWork<S::Input, W>>(
     names: NameWords,
     work: &mut K,

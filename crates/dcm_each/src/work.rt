@@ -10,7 +10,7 @@ use dcm_files::FileKind;
 /// How the work on names ended, where the output did not fail: the greatest status of files and lists.
 pub type Ends = Result<u8, WriteFailed>;
 
-/// What does files, one after another, into one output.
+/// Does files, one after another, into one output.
 pub trait FileWork<I: DeviceIn, W: DeviceOut> {
     /// What is done with each, from one state of the work and of the output to later ones.
     ghost work: { spec.Work I (Self × W) };

@@ -14,7 +14,7 @@ use dcm_base::Tag;
 use dcm_edits::{Action, Edit, Index, NewElement, PathEdit, Step};
 use std::alloc::Allocator;
 
-/// What becomes of an element.
+/// What the edits do with an element.
 #[derive_where(Clone, Copy)]
 pub enum Fate<'e, A: Allocator> {
     Stays,
@@ -39,21 +39,21 @@ pub struct Gap {
 /// A question about an edit at a place of the input.
 #[derive(Clone, Copy)]
 pub enum Question {
-    /// Whether it finds its place at the head of this element.
+    /// Whether the edit finds its place at the head of this element.
     AtHead(Tag, Option<Tag>),
-    /// Whether it changes this element, or puts another one between the last one and it.
+    /// Whether the edit changes this element, or puts a new element between the last one and this one.
     Meets(Tag, Option<Tag>),
-    /// Whether it finds its place at the head of this item of a sequence.
+    /// Whether the edit finds its place at the head of this item of a sequence.
     AtItem(Tag, u32),
-    /// Whether it has its place in the data set of a file, whatever that holds.
+    /// Whether the edit has its place in the outermost data set, whatever this data set holds.
     AtTop,
-    /// Whether it finds its place at the end of a data set.
+    /// Whether the edit finds its place at the end of a data set.
     AtEnd(Option<Tag>),
-    /// Whether it asks something of the data set in this item of a sequence.
+    /// Whether the edit concerns the data set in this item of a sequence.
     GoesAlong(Tag, u32),
-    /// Whether it erases this item of a sequence.
+    /// Whether the edit erases this item of a sequence.
     Erases(Tag, u32),
-    /// Whether it asks something of each data set, and nothing of its place.
+    /// Whether the edit concerns all data sets, at each depth.
     IsEverywhere,
 }
 
@@ -75,7 +75,7 @@ fn selects(index: Index, item: u32) -> bool
 }
 
 impl Gap {
-    /// Whether a tag lies in it.
+    /// Whether a tag lies in the gap.
     #[inline(always)]
     pub fn holds(self, tag: Tag) -> bool
         ensures { result ≡ asking.in_gap self tag }
@@ -93,7 +93,7 @@ impl Gap {
 }
 
 impl<A: Allocator> New<'_, A> {
-    /// Its tag.
+    /// The tag of the new element.
     #[inline(always)]
     pub fn tag(&self) -> Tag
         ensures { result ≡ asking.new_tag self.now }
@@ -151,7 +151,7 @@ fn path_fate<A: Allocator>(path: &PathEdit<A>, depth: usize, tag: Tag) -> Fate<'
     }
 }
 
-/// What becomes of an element with this tag.
+/// What an edit does with an element of this tag.
 #[inline(always)]
 pub fn fate_by<A: Allocator>(edit: &Edit<A>, depth: usize, tag: Tag) -> Fate<'_, A>
     ensures { asking.fate_of result ≡ spec.fate (masks.at_depth depth (edit_of edit.now)) tag }
@@ -269,7 +269,7 @@ fn path_new<A: Allocator>(path: &PathEdit<A>, depth: usize) -> Option<New<'_, A>
     }
 }
 
-/// What an edit puts where the data set lacks it.
+/// The element that an edit puts into a data set that lacks it.
 #[inline(always)]
 pub fn new_element<A: Allocator>(edit: &Edit<A>, depth: usize) -> Option<New<'_, A>>
     ensures { asking.seen_of result ≡ asking.seen (spec.element_of (masks.at_depth depth (edit_of edit.now))) }
@@ -280,7 +280,7 @@ pub fn new_element<A: Allocator>(edit: &Edit<A>, depth: usize) -> Option<New<'_,
     }
 }
 
-/// A value has its place in each data set that is selected.
+/// Whether an edit puts a value into a data set, so that it has its place there.
 #[inline(always)]
 pub fn has_place<A: Allocator>(edit: &Edit<A>, depth: usize) -> bool
     ensures { result ≡ has_place_spec (spec.element_of (masks.at_depth depth (edit_of edit.now))) }
@@ -357,7 +357,7 @@ fn is_everywhere<A: Allocator>(edit: &Edit<A>) -> bool
     }
 }
 
-/// The answer of an edit that asks something of a data set within so many items.
+/// The answer of an edit to a question about a data set within so many items.
 #[inline(always)]
 pub fn answers<A: Allocator>(edit: &Edit<A>, depth: usize, question: Question) -> bool
     requires { depth < 2 ^ 32 }

@@ -24,7 +24,8 @@ use std::alloc::Allocator;
 /// The most data sets that are open around another.
 pub const MOST_AROUND: usize = 64;
 
-/// An open data set: which edits ask something of it, the tag of its last element, and how many items that has so far.
+/// An open data set: the edits that concern it, the tag of its last element, and the number of items that this element
+/// has so far.
 #[derive(Clone, Copy, Debug, Default, PartialEq, Eq)]
 pub struct Level {
     pub mask: u64,
@@ -113,7 +114,7 @@ impl Editor {
         self.found | found_here
     }
 
-    /// What becomes of an element of the innermost data set.
+    /// What the edits do with an element of the innermost data set.
     pub fn fate_of<'e, A: Allocator>(
         &self,
         edits: &'e [Edit<A>],
@@ -172,7 +173,7 @@ impl Editor {
         .any_answers(question)
     }
 
-    /// Whether the next item is erased, where there is an element that it belongs to.
+    /// Whether the next item is erased, if there is an element to which the item belongs.
     #[inline(always)]
     pub fn erases_next<A: Allocator>(&self, edits: &[Edit<A>]) -> bool
         requires { length edits.now ≤ 64 }

@@ -21,7 +21,7 @@ fn is_set(mask: u64, place: usize) -> bool
     (mask >> place) & 1 == 1
 }
 
-/// The mask with this bit set.
+/// A mask with one more bit set.
 #[inline(always)]
 pub fn with_bit(mask: u64, place: usize) -> u64
     requires { place < 64 }
@@ -31,7 +31,7 @@ pub fn with_bit(mask: u64, place: usize) -> u64
     mask | (1 << place)
 }
 
-/// The mask of so many edits (DECISIONS, D-56).
+/// The mask of this number of edits (DECISIONS, D-56).
 pub fn all(count: usize) -> u64
     requires { count ≤ 64 }
     ensures { (k : ℕ) → k < count → masks.is_set result k ≡ true }

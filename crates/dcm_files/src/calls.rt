@@ -5,8 +5,7 @@ ghost use Rattle.dcm_files.specs.Call.{Call};
 
 use std::marker::{Model, PhantomData};
 
-/// The calls that were made of a system, one after another, with what each answered. They are known in proofs alone,
-/// and take no memory.
+/// The calls of a system, one after another, with their answers. Only proofs know them, and they take no memory.
 #[derive(Drop)]
 pub struct Calls {
     marker: PhantomData<u8>,

@@ -34,7 +34,7 @@ pub struct Found {
     pub device: u64,
     /// Its number there.
     pub number: u64,
-    /// Who may read, write and run it: nine bits.
+    /// Who may read, write and run it: the nine lowest bits of the mode.
     pub mode: u32,
 }
 

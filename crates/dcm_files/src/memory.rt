@@ -30,7 +30,7 @@ pub struct MemFile<'a> {
     pub name: &'a [u8],
     /// The number of the file.
     pub number: u64,
-    /// What it holds.
+    /// The bytes of the file.
     pub bytes: &'a [u8],
 }
 

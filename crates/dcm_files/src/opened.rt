@@ -22,7 +22,7 @@ pub struct Opened<D> {
     pub kind: FileKind,
 }
 
-/// Why a job was not begun.
+/// Why a job is not begun.
 #[derive(Clone, Copy, Debug, PartialEq, Eq)]
 pub enum Unopened {
     /// The input cannot be opened.
@@ -33,8 +33,8 @@ pub enum Unopened {
     Same,
     /// The output is a file that holds bytes, and is not to be overwritten.
     There,
-    /// What is written until the output is whole is there: another run is at work, or was cut off.
+    /// The temporary file of the output exists: another run is at work, or was cut off.
     Part,
-    /// Opening one of them wants memory.
+    /// Opening the input or the output needs memory that was refused.
     Memory,
 }

@@ -208,8 +208,8 @@ fn remove_part<S: System>(system: &mut S, output: &[u8]) -> io::Result<()>
     system.remove(path(part.as_slice())?)
 }
 
-/// Gives an output its name, where it is whole; else removes it. Fails where it cannot be given its name, and has
-/// removed it then.
+/// Gives a complete output its name, and removes any other. Fails where the output cannot get its name, which is
+/// removed then.
 pub fn end_part<S: System>(system: &mut S, output: &[u8], is_whole: bool) -> io::Result<()>
     ensures { spec.EndsPart S.may_do output.now is_whole system.old result system.new }
 {

@@ -8,7 +8,8 @@ ghost use Rattle.dcm_head.specs.GroupPlaces.{place_is};
 use crate::head::{Head, HeadRead, SHORT_HEAD, read_explicit, read_short, read_tag};
 use dcm_base::{Fault, Length, META_GROUP, Syntax, Tag, Vr};
 
-/// A whole element with the sizes of its head and its value, the group's end, too few bytes to know, or a fault.
+/// What comes next in a meta group: an element with the sizes of its head and value, the end of the group, too few
+/// bytes to know, or a fault.
 #[derive(Clone, Copy, Debug, PartialEq, Eq)]
 pub enum Place {
     Element(Tag, Vr, usize, usize),
@@ -45,7 +46,7 @@ fn place_of_head(taken: usize, left: usize, head: Head, used: usize) -> Place
     Place::Element(head.tag, head.vr, used, size)
 }
 
-/// At the front of the rest, where the group has so many bytes before it.
+/// What comes next in a meta group, of which this number of bytes was read.
 pub fn place_of(taken: usize, rest: &[u8]) -> Place
     requires { taken ≤ META_LIMIT }
     ensures { place_is result ≡ spec.group_place taken rest.now }

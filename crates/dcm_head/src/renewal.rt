@@ -11,19 +11,19 @@ use dcm_base::Tag;
 /// The most bytes of a value that is put in place of another: those of a unique identifier (PS3.5 6.2).
 const MOST_OF_NEW: usize = 64;
 
-/// What becomes of an element.
+/// What is done with an element of a meta group.
 #[derive(Drop)]
 pub enum Renewed {
-    /// It goes.
+    /// The element is removed.
     Gone,
-    /// It stays as it is.
+    /// The element is kept with its value.
     Same,
-    /// It stays with this value, without padding.
+    /// The element is kept with this value, which has no padding.
     New(ArrayVec<u8, MOST_OF_NEW>),
 }
 
 impl Renewed {
-    /// The element as it stays.
+    /// The element that is written.
     pub fn of<'a>(&'a self, element: MetaElement<'a>) -> Option<MetaElement<'a>>
         requires { length element.value.now < 65535 }
         ensures some { IfSome result (λ e. spec.StaysAs self.now element.entry e) }
@@ -51,7 +51,7 @@ impl Renewed {
     }
 }
 
-/// What says what stays of a meta group.
+/// Decides which elements of a meta group are kept, and with which values.
 pub trait Renewal {
     /// The value that an element is to have, or none where it goes.
     ghost renewing: { Self → Renewing };
@@ -69,7 +69,7 @@ pub trait Renewal {
         ensures { spec.AreOwn (own self.now) result.now };
 }
 
-/// All elements stay as they are.
+/// Keeps all elements with their values.
 pub struct AllStays;
 
 impl Renewal for AllStays {

@@ -38,7 +38,7 @@ impl<'a> SyntaxUid<'a> {
         Some(SyntaxUid { bytes })
     }
 
-    /// That of a data set that is not encapsulated (PS3.5 annex A).
+    /// The UID of a transfer syntax that is not encapsulated (PS3.5 annex A).
     pub fn of(syntax: Syntax) -> SyntaxUid<'static>
         ensures { result ≡ uid_of_syntax syntax }
     {
@@ -50,7 +50,7 @@ impl<'a> SyntaxUid<'a> {
         SyntaxUid { bytes }
     }
 
-    /// Its bytes.
+    /// The bytes of the UID.
     pub fn as_bytes(&self) -> &'a [u8]
         ensures value { result.now ≡ self.now }
         ensures limit { length result.now ≤ SHORT_LIMIT }

@@ -18,7 +18,7 @@ pub const MOST_OF_INSTANCE_NAME: usize = 3 * MOST_OF_UID + 6;
 /// A unique identifier, without padding.
 pub type Uid = ArrayVec<u8, MOST_OF_UID>;
 
-/// One of the three that name an instance.
+/// The three UIDs that name an instance.
 #[derive(Clone, Copy, Debug, PartialEq, Eq)]
 pub enum InstanceUid {
     /// StudyInstanceUID (PS3.3 C.7.2.1).
@@ -30,7 +30,7 @@ pub enum InstanceUid {
 }
 
 impl InstanceUid {
-    /// Its keyword in the dictionary (PS3.6 6).
+    /// The keyword of the UID in the dictionary (PS3.6 6).
     pub fn keyword(self) -> &'static [u8]
         ensures { result.now ≡ spec.keyword self }
     {
@@ -73,14 +73,14 @@ pub struct Instance {
 /// Why a file names no instance.
 #[derive(Clone, Copy, Debug, PartialEq, Eq)]
 pub enum NoInstance {
-    /// The first of them, in the order of `InstanceUid`, that is missing or unfit.
+    /// The first UID, in the order of `InstanceUid`, that is missing or cannot be a name.
     Unfit(InstanceUid),
-    /// Reading failed before that was decided.
+    /// Reading failed before all three UIDs were read.
     Unread,
 }
 
 impl Instance {
-    /// Its name below a folder: STUDY/SERIES/INSTANCE.dcm.
+    /// The name of the instance below a folder: STUDY/SERIES/INSTANCE.dcm.
     pub fn name(&self) -> ArrayVec<u8, MOST_OF_INSTANCE_NAME>
         ensures { result.items ≡ spec.instance_name (spec.uids_of self.now) }
     {

@@ -93,8 +93,8 @@ fn compare<A: DeviceIn, B: DeviceIn>(
     false
 }
 
-/// Whether two readers both give all that they have, and the same bytes. It reads no further where they differ. Inputs
-/// of more than 2^62 bytes, which nobody has, are not the same.
+/// Whether two readers both give all their bytes, and the same bytes. The reading ends at the first difference. Inputs
+/// of more than 2^62 bytes do not count as the same.
 pub fn same_bytes<A: DeviceIn, B: DeviceIn>(first: &mut Watched<A>, second: &mut Watched<B>) -> bool
     ensures { spec.Compares A.DeviceIn B.DeviceIn first.old first.new second.old second.new result }
 {

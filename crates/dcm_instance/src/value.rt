@@ -10,11 +10,11 @@ use std::marker::Model;
 /// How far an element has come.
 #[derive(Clone, Copy, Debug, PartialEq, Eq)]
 pub(crate) enum Progress {
-    /// Its head did not come.
+    /// The element has not come.
     Missing,
-    /// Its value is open.
+    /// The value is open.
     Open,
-    /// Its value is whole.
+    /// The value is whole.
     Ended,
 }
 

@@ -15,7 +15,7 @@ use dcm_base::{Form, MOST_OPEN, Mode, Syntax, Tag, form_of, read_as};
 use dcm_head::Head;
 use dcm_stream::{Skip, Token};
 
-/// A sequence or fragment list that is open around, of which nothing is shown.
+/// A sequence or fragment list around the current element, of which nothing is shown.
 #[derive(Clone, Copy, Debug, PartialEq, Eq)]
 pub struct Outside {
     pub tag: Tag,
@@ -27,7 +27,8 @@ impl Default for Outside {
     }
 }
 
-/// What is named, how it is shown, which sequences are open around, and what is open of what is shown.
+/// The named tags, how elements are shown, the sequences around the current element, and what is open of an element
+/// that is shown.
 #[derive(Drop)]
 pub struct Filter<'t> {
     tags: &'t [Tag],
@@ -139,7 +140,8 @@ impl<'t> Filter<'t> {
         }
     }
 
-    /// The sequences on the way, from the outermost on, where they stand before what a token shows; else none.
+    /// The sequences around an element, from the outermost on, if a way is written before what a token shows. Otherwise
+    /// none.
     pub fn way_before(&self, token: Token) -> &[Outside]
         ensures { naming.token_before (naming.place self.now) token.entry ≡ flat_map naming.outside_text result.now }
     {

@@ -62,8 +62,8 @@ pub fn named_meta<W: DeviceOut>(
     show_elements(meta.bytes(), tags, ways, mode, &mut lines)
 }
 
-/// The same, with texts shown by characters: bytes from 80 on by their numbers, since a meta group has no Specific
-/// Character Set (PS3.10 7.1). Fails as that does.
+/// Writes the lines of named elements of a meta group, with texts shown by characters. Bytes from 80 on are shown as
+/// numbers, since a meta group has no Specific Character Set (PS3.10 7.1). Fails as `named_meta` does.
 pub fn named_decoded_meta<W: DeviceOut>(
     meta: &Meta,
     tags: &[Tag],

@@ -212,7 +212,7 @@ fn put_some_emptied<E: DeviceOut>(
     put_named(name, &text, errors)
 }
 
-/// The same of any number: of none nothing is written.
+/// Reports how many shifted dates of a file became empty, if there are any. Fails where the writer fails.
 pub fn put_emptied<E: DeviceOut>(
     name: &[u8],
     count: u64,

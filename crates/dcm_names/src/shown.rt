@@ -44,7 +44,7 @@ fn show_byte(byte: u8, text: &mut ArrayVec<u8, MOST_SHOWN>)
     }
 }
 
-/// A name as it is shown in a line on standard error. Of a long one the first bytes are.
+/// A name as a line on standard error shows it. A long name is cut.
 pub fn shown_name(name: &[u8]) -> ArrayVec<u8, MOST_SHOWN>
     ensures value { result.items ≡ spec.shown_name name.now }
     ensures within { length result.items ≤ 12288 }

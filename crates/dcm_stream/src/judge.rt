@@ -196,7 +196,8 @@ pub fn judge_head<S: Sink>(
     Ok(Opening::End(inner.container))
 }
 
-/// Bytes at a place with room for the shortest head, where this is the innermost container.
+/// What the bytes mean at a place where a head may come. There is room for the shortest head, and the innermost
+/// container is given.
 #[inline(always)]
 pub fn judge<S: Sink>(
     inner: Level,

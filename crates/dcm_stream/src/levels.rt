@@ -139,7 +139,7 @@ pub fn with_length(head: u64, declared: Length) -> u64
 }
 
 impl OpenLevels {
-    /// This container alone.
+    /// The outermost container alone.
     pub fn new(outermost: Level) -> Self
         ensures { result ≡ outermost ∷ [] }
     {
@@ -190,7 +190,7 @@ impl OpenLevels {
         }
     }
 
-    /// Whether the data set alone is open.
+    /// Whether only the outermost data set is open.
     pub fn is_top(&self) -> bool
         ensures { result ≡ reading.is_top self.now }
     {
@@ -214,7 +214,7 @@ impl OpenLevels {
         });
     }
 
-    /// What comes in the innermost container is of this syntax.
+    /// Sets the syntax of what comes next in the innermost container.
     pub fn set_syntax(&mut self, syntax: Syntax)
         ensures { self.new ≡ reading.innermost_in syntax self.old }
     {

@@ -78,7 +78,7 @@ fn if_signed(signed: bool, dictionary: Dictionary) -> Dictionary
 }
 
 impl OpenSign {
-    /// What is kept of one that begins.
+    /// The value of PixelRepresentation before its first byte.
     pub fn new(vr: Vr) -> Self
         ensures { sign_held result ≡ record { vr = vr; first = [] } }
     {
@@ -88,7 +88,7 @@ impl OpenSign {
         }
     }
 
-    /// Bytes of it come.
+    /// Adds bytes of the value.
     #[inline(never)]
     pub fn read(&mut self, bytes: &[u8])
         ensures { sign_held self.new ≡ record { vr = self.old.vr; first = take 8 (self.old.first.items ++ bytes.now) } }
@@ -98,7 +98,7 @@ impl OpenSign {
         let _ = self.first.try_extend_from_slice(some);
     }
 
-    /// The syntax after it.
+    /// The syntax by which elements behind PixelRepresentation are read.
     pub fn syntax_after(&self, syntax: Syntax) -> Syntax
         ensures { result ≡ spec.signed_by (sign_held self.now) syntax }
     {

@@ -12,7 +12,7 @@ use super::{Bar, Token, WholeFailed};
 use dcm_base::{Syntax, WriteFailed};
 use dcm_head::Head;
 
-/// What takes tokens, one after another.
+/// Takes the tokens of a data set, one after another.
 pub trait Sink {
     /// What the tokens so far leave it in, apart from what was written.
     ghost State: { Type 0 };

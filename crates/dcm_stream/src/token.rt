@@ -82,11 +82,11 @@ pub enum Bar {
     Patient,
 }
 
-/// How far an element had come that a sink takes whole, when its writer failed.
+/// How much of a whole element was written when the writer failed.
 #[derive(Clone, Copy, Debug, PartialEq, Eq)]
 pub enum WholeFailed {
-    /// What its head makes was not out.
+    /// Not all of what the head makes was written.
     AtHead,
-    /// That was out, and of its value and its end not all.
+    /// All of what the head makes was written, and not all of the rest.
     InValue,
 }

@@ -21,16 +21,16 @@ use std::alloc::{AllocError, Global};
 /// The bytes of a value that a cell holds at most.
 pub const CELL_LIMIT: usize = 16_384;
 
-/// How far the first element of a tag was read.
+/// How far the first element of a column's tag was read.
 #[derive(Clone, Copy, Debug, PartialEq, Eq)]
 pub enum Progress {
     /// No element of the tag came.
     Missing,
-    /// Its value is on its way: how it is read, how it is shown, and its syntax.
+    /// The value is open: the VR by which it is read, the VR by which it is shown, and its syntax.
     Open(Vr, Vr, Syntax),
-    /// Its value is on its way, and longer than a cell.
+    /// The value is open, and longer than a cell.
     OpenTooLong,
-    /// Its value is whole, and is shown by this representation.
+    /// The value is whole, and is shown by this VR.
     Whole(Vr),
     TooLong,
     NotShown,
@@ -123,7 +123,7 @@ impl Slot {
         })
     }
 
-    /// Nothing was read of a file.
+    /// Empties the cell before the next file.
     pub fn clear(&mut self)
         ensures { slot_of self.new ≡ (self.old.tag, spec.missing, EMPTY) }
     {

@@ -12,7 +12,8 @@ const PLACES: usize = 256;
 /// Two to the power of so many are `PLACES`.
 const PLACE_BITS: u32 = 8;
 
-/// A run of columns: the first, and the one after the last. It is of no column where the first is not below that.
+/// A run of columns: the first column, and the column behind the last. If the first is not below the second, the run is
+/// empty.
 #[derive(Clone, Copy, Debug, PartialEq, Eq)]
 pub struct Span {
     pub first: u8,
@@ -20,13 +21,13 @@ pub struct Span {
 }
 
 impl Span {
-    /// Of no column.
+    /// The empty run.
     pub const NONE: Span = Span {
         first: u8::MAX,
         after: 0,
     };
 
-    /// The columns of both, and those between.
+    /// The least run that has the columns of both runs.
     pub fn with(self, other: Span) -> Span
         ensures { result ≡ spec.both self other }
     {
@@ -36,7 +37,7 @@ impl Span {
         }
     }
 
-    /// Whether it is of no column.
+    /// Whether the run is empty.
     pub fn is_empty(self) -> bool
         ensures { result ≡ spec.is_empty self }
     {
@@ -52,7 +53,7 @@ fn place_of(tag: Tag) -> usize
     spread(tag.number(), PLACE_BITS)
 }
 
-/// Of each place the columns of its tags.
+/// For each place of a hash the columns of its tags.
 #[derive(Drop)]
 pub struct Index {
     spans: [Span; PLACES],

@@ -16,9 +16,9 @@ use dcm_table::{Cells, RowEnd, row_end, take_meta};
 /// How the reading of a file ended.
 #[derive(Clone, Copy, Debug, PartialEq, Eq)]
 pub enum FileEnd {
-    /// As far as it is needed, or by a fault: it has a row.
+    /// The file was read as far as its row needs, or up to a fault. It has a row.
     Read(RowEnd),
-    /// Reading failed after so many bytes, before its row was decided: it has none.
+    /// Reading failed after this number of bytes, before the row was decided. The file has no row.
     Unread(u64),
 }
 

@@ -237,7 +237,7 @@ pub fn start<S: Folders, E: DeviceOut>(system: &mut S, alloc: Global, errors: &m
 pub struct Ended {
     /// The exit status.
     pub status: u8,
-    /// The system, or that it was asked for and could not be used.
+    /// The system. An error if the system was asked for and cannot be used.
     pub host: Result<Host, NoHost>,
     /// Standard error.
     pub errors: Watched<Std<Stderr>>,

@@ -22,7 +22,8 @@ pub struct Part {
     pub meaning: Meaning,
 }
 
-/// What a text was so far: what is in force, what all bytes mean, and bytes that wait for what follows them.
+/// The state of reading a text in pieces: the character sets in force, what bytes mean now, and bytes that wait for
+/// more.
 #[derive(Drop)]
 pub struct Decoder {
     sets: Sets,

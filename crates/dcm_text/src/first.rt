@@ -12,14 +12,14 @@ use crate::quick::{quick_designation, quick_of};
 use crate::set::{Effect, Halves, Left, Right, Set, TextKind};
 use crate::sets::Sets;
 
-/// What some bytes of a text are.
+/// What some bytes of a text mean.
 #[derive(Clone, Copy, Debug, PartialEq, Eq)]
 pub enum Meaning {
     /// A character.
     Character(char),
     /// Bytes without a character.
     Unknown,
-    /// A designation (PS3.5 6.1.2.5.3), which shows nothing.
+    /// An escape sequence that designates a character set (PS3.5 6.1.2.5.3), which shows nothing.
     Designation,
 }
 

@@ -12,12 +12,12 @@ use crate::set::{Left, Right};
 /// The least and the greatest of the bytes that may stand at a place.
 pub type Range = (u8, u8);
 
-/// How bytes fit what is wanted.
+/// How bytes match a wanted form.
 #[derive(Clone, Copy, Debug, PartialEq, Eq)]
 pub enum Fit {
-    /// All of it stands there.
+    /// All bytes of the form are there.
     Whole,
-    /// They end within it.
+    /// The bytes end within the form.
     Part,
     Not,
 }
@@ -36,9 +36,9 @@ pub enum Form {
 /// What a byte begins.
 #[derive(Clone, Copy, Debug, PartialEq, Eq)]
 pub enum Opening {
-    /// It stands for itself: its character, where it has one.
+    /// The byte stands for itself: its character, if it has one.
     Byte(Option<char>),
-    /// Perhaps a form.
+    /// Perhaps a form of several bytes.
     Form(Form),
 }
 

@@ -8,7 +8,7 @@ pub enum Set {
     Single(Single),
     /// Japanese, two bytes from 21 to 7E.
     Ir87,
-    /// More of Japanese, the same.
+    /// More Japanese characters, two bytes from 21 to 7E.
     Ir159,
     /// Korean, two bytes from A1 to FE.
     Ir149,

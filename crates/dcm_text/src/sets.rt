@@ -52,10 +52,10 @@ pub const TERMS: [Term; 34] = [
 /// A longer value names what the empty one does.
 const LONGEST: usize = 512;
 
-/// The flags of no set but ASCII, whose flag is the last.
+/// The flags of ASCII alone, whose flag is the last.
 pub const ASCII_ALONE: u32 = 1 << 16;
 
-/// What is in force: what a text begins with, and what may be designated within it.
+/// The character sets in force: what bytes mean at the beginning of a text, and which sets a text may designate.
 #[derive(Clone, Copy, Debug, PartialEq, Eq)]
 pub struct Sets {
     /// What bytes from 80 on mean at first; those below 80 are ASCII.
@@ -93,7 +93,7 @@ fn place(set: Set) -> u32
 }
 
 impl Sets {
-    /// Those of the empty value.
+    /// The character sets of an empty value.
     pub const DEFAULT: Sets = Sets {
         start: Right::Nothing,
         extended: false,

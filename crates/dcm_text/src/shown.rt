@@ -13,7 +13,7 @@ use dcm_bytes::append;
 /// The first and the last of some characters.
 pub type Characters = (u32, u32);
 
-/// Controls, what turns or breaks lines, and what shows nothing.
+/// Controls, characters that turn or break lines, and characters that show nothing.
 #[rattlefmt::skip]
 pub const HIDDEN: [Characters; 21] = [
     (0x00, 0x1F), (0x7F, 0x9F), (0xAD, 0xAD), (0x34F, 0x34F), (0x61C, 0x61C), (0x115F, 0x1160), (0x17B4, 0x17B5),

@@ -89,7 +89,7 @@ fn signed_vr(vr: Vr) -> Vr
     }
 }
 
-/// The value representation and the keyword of such a tag, where pixels are not signed.
+/// The VR and the keyword of a tag that the standard leaves between two VRs, where pixels are not signed.
 pub fn unsigned_element(tag: Tag) -> Option<(Vr, &'static str)>
     ensures { option_map (λ r. (r.0, r.1.now)) result ≡ spec.ambiguous_in Standard tag }
 {
@@ -99,7 +99,7 @@ pub fn unsigned_element(tag: Tag) -> Option<(Vr, &'static str)>
     numbered(rows(), &PLACES, tag.number())
 }
 
-/// The same, where they are.
+/// The VR and the keyword of a tag that the standard leaves between two VRs, where pixels are signed.
 pub fn signed_element(tag: Tag) -> Option<(Vr, &'static str)>
     ensures { option_map (λ r. (r.0, r.1.now)) result ≡ spec.ambiguous_in Signed tag }
 {
@@ -109,7 +109,7 @@ pub fn signed_element(tag: Tag) -> Option<(Vr, &'static str)>
     }
 }
 
-/// The tag of such an element, by its keyword.
+/// The tag of an element that the standard leaves between two VRs, by its keyword.
 pub fn ambiguous_tag(keyword: &[u8]) -> Option<Tag>
     ensures { result ≡ option_map tag_of_number (spec.called spec.ambiguous keyword.now) }
 {

@@ -102,7 +102,7 @@ pub fn dump_header<W: DeviceOut>(
     dump_header_with(meta, Dictionary::Extract, mode, out)
 }
 
-/// The same, whose elements are called as the dictionary says. Fails as that does.
+/// Writes what `dump_header` writes, with the keywords of a dictionary. Fails as `dump_header` does.
 pub fn dump_header_with<W: DeviceOut>(
     meta: &Meta,
     dictionary: Dictionary,

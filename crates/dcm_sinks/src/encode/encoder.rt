@@ -342,7 +342,8 @@ impl Encoder {
         self.put_leaf(out, head, syntax, value)
     }
 
-    /// The same, where nobody has to know how far it came.
+    /// Writes an element whose value is whole, as `take_whole_telling` does. An `Err` does not say how far the element
+    /// came.
     #[inline(always)]
     pub fn take_whole<W: DeviceOut>(
         &mut self,
