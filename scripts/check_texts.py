@@ -200,7 +200,7 @@ FACTS = [
     (r"the (\d+)th open sequence", "crates/dcm_base/src/level.rt", "MOST_LISTS", 1),
     (r"passes the ([\d,]+)th byte of the group|meta group has at most ([\d,]+) bytes", "crates/dcm_head/src/group.rt", "META_LIMIT", 0),
     (r"\b80 to ([\d,]+)", "crates/dcm_base/src/limits.rt", "LINE_LIMIT", 0),
-    (r"has at most N bytes, (\d+) to", "crates/dcm_words/src/words.rt", "LEAST_LIMIT", 0),
+    (r"of more than N bytes, (\d+) to", "crates/dcm_words/src/words.rt", "LEAST_LIMIT", 0),
     (r"\(default ([\d,]+)\)|The default is ([\d,]+)\.", "crates/dcm_words/src/words.rt", "USUAL_LIMIT", 0),
     (r"or of an edit ([\d,]+)|A value has at most ([\d,]+) bytes", "crates/dcm_base/src/limits.rt", "VALUE_LIMIT", 0),
     (r"(\d+) to 4,?096", "crates/dcm_cli/src/key.rt", "LEAST_OF_KEY", 0),
@@ -275,7 +275,7 @@ def wrong_causes() -> list:
 # What a newcomer has to be told, and where: a page, a title of the manual page, a text of the program, or a script.
 WRAPPERS = ("dcm2csv", "dcmconv", "dcmdeid", "dcmdump", "dcmodify", "dump2dcm")
 TOLD = [
-    ("that an OUTPUT that is there stays", r"\bstays\b", ("README.md", "Existing output files", "MODIFY")),
+    ("that an existing OUTPUT is not changed", r"\bstays\b|is not changed", ("README.md", "Existing output files", "MODIFY")),
     ("what edits do not see without +dict", r"names may be left", ("README.md", "Edits of dcmodify", "MODIFY")),
     ("where the causes of lines are", r"likeliest cause", ("DIAGNOSTICS",)),
     ("where the causes of lines are", r"PROFILE.md#faults\)", ("README.md",)),
