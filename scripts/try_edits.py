@@ -518,7 +518,7 @@ def functions_without_edit(crate: str) -> list[Function]:
     """The public functions and the methods of a crate, those of its private modules too, where no edit changes a line of them or of a
     private function that they call. Laws have edits of what they state."""
     top = ROOT / "crates" / crate
-    paths = [path for path in sorted((top / "src").rglob("*.rt")) if "tests" not in path.parts and path.name not in ("tests.rt", "laws.rt")]
+    paths = [path for path in sorted((top / "src").rglob("*.rt")) if "tests" not in path.parts and path.name not in ("tests.rt", "laws.rt", "ideal.rt")]
     functions = [it for path in paths for it in functions_in(str(path.relative_to(top)), path.read_text())]
     turned: dict[str, set[int]] = {}
     for edit in edits_of(crate):
