@@ -10,9 +10,9 @@ With --before an older build of dcmtools takes turns with the others, so that a 
 The inputs are made in a temporary directory, which takes a little more than five times `--mebibytes` and is removed at
 the end. They are read from the page cache. Dumps go to /dev/null. A conversion, or a file that is built from a dump, is
 written into the same directory, as is that of `cat FILE > OUTPUT` beside it, and each starts without that file; so is a
-file with edits. One run prints twelve tables: time and memory of tables of files, throughput of dumps, of conversions, of files that
+file with edits. One run prints thirteen tables: time and memory of tables of files, throughput of dumps, of conversions, of files that
 are built and of files with edits (the median of the rounds, in which the programs take turns, over the bytes of the input), time of
-dumps of small elements beside a bound, and of other work on them, edits of them and the same work with each dictionary (the best of
+dumps of small elements beside a bound, of other work on them, and of items in UN and at many levels, edits of them and the same work with each dictionary (the best of
 the rounds), time of a whole process on a small file, and peak memory, of files with edits in a table of its own. The bound is
 dump_bound.c, built with `cc` where there is one.
 
@@ -75,6 +75,11 @@ KNOWN = {
 # elements of the structured report, and of the files of many that are empty
 REPORT_ELEMENTS = 200_000
 EMPTY = 1_000_000
+
+# elements UN that hold an item each, and sequences of as many levels as may be open
+UNKNOWN_ITEMS = 40_000
+DEEP_SEQUENCES = 300
+MOST_LEVELS = 64
 
 # the files of a table, and their pixels, at least and at most
 TABLE_FILES = 10_000
@@ -296,6 +301,26 @@ def make_empty_items(path):
     Path(path).write_bytes(meta(LITTLE) + front(LITTLE) + sequence)
 
 
+def implicit_leaf(group, element, value):
+    return head(IMPLICIT, group, element, "", len(value)) + value
+
+
+def make_unknown_items(path):
+    """Many elements UN of known length, each a sequence by the whole dictionary with one item."""
+    code = implicit_leaf(0x0008, 0x0100, b"T-D0050 ") + implicit_leaf(0x0008, 0x0104, b"a meaning ")
+    item = head(IMPLICIT, 0xFFFE, 0xE000, "", len(code)) + code
+    element = head(LITTLE, 0x0040, 0xA043, "UN", len(item)) + item
+    Path(path).write_bytes(meta(LITTLE) + front(LITTLE) + element * UNKNOWN_ITEMS)
+
+
+def make_levels(path):
+    """Sequences of as many levels as may be open, each with a value."""
+    levels = b""
+    for _ in range(MOST_LEVELS):
+        levels = undefined_sequence(0x0040, 0xA730, [leaf(LITTLE, 0x0040, 0xA040, "CS", b"TEXT") + levels])
+    Path(path).write_bytes(meta(LITTLE) + front(LITTLE) + levels * DEEP_SEQUENCES)
+
+
 def report_edits():
     """As many edits as there may be beside two others, each of a code in an item of an item of an item."""
     items = [f"ContentSequence[0].ContentSequence[{number // 8}].ContentSequence[{number % 8}]" for number in range(PATH_EDITS)]
@@ -397,6 +422,8 @@ def make_small_elements(binary, folder):
     make_empty_elements(path("empty_elements"))
     make_empty_items(path("empty_items"))
     make_frames(path("frames"))
+    make_unknown_items(path("unknown_items"))
+    make_levels(path("levels"))
     frames = f"{FRAMES:,} frames, {7 * FRAMES:,} values"
     make_dump(binary, path("report"), path("report.dump"))
     converted = {option: path(f"report{option}") for option in ("+ti", "+tb")}
@@ -419,6 +446,14 @@ def make_small_elements(binary, folder):
         for option, name in [("+ti", "implicit"), ("+tb", "big endian")]
     ]
     others.append(Work("dump2dcm", "its full dump", [], path("report.dump"), path("output")))
+    unknown = f"{UNKNOWN_ITEMS:,} UN that hold an item each"
+    levels = f"{DEEP_SEQUENCES} sequences of {MOST_LEVELS} levels"
+    of_items = [
+        Work("dcmdump", unknown, ["+dict"], path("unknown_items")),
+        Work("dcmconv", unknown, ["+dict", "+te"], path("unknown_items"), path("output")),
+        Work("dcmdump", levels, ["-L"], path("levels")),
+        Work("dcmconv", levels, ["+te"], path("levels"), path("output")),
+    ]
     edits = ["-ma", "CodeValue=T-1", "-m", "PatientName=Mark^Bench", *report_edits()]
     label = f"-ma, -m and {PATH_EDITS} of -m with paths"
     modifications = [Work("dcmodify", report, edits, path("report"), path("output"), label)]
@@ -426,7 +461,7 @@ def make_small_elements(binary, folder):
     erasing = [Work("dcmodify", report, erased(count), path("report"), path("output"), f"{count} of -ea") for count in ERASED]
     identities = [Work("dcmdeid", frames, dates, path("frames"), path("output")) for dates in DATES]
     os.sync()
-    return dumps, others, one_edit + modifications + erasing, identities
+    return dumps, others, one_edit + modifications + erasing, identities, of_items
 
 
 # ---- processes
@@ -957,11 +992,13 @@ def main():
         print_throughput("Files that are built, in MB/s of input", builds, run, chosen.rounds)
         print_throughput("Files with edits, in MB/s of input", modifications, editing, chosen.rounds)
         print_throughput("Files without identity, in MB/s of input", identities, identity, chosen.rounds)
-        dumps_of_small, others_of_small, edits_of_small, identities_of_small = make_small_elements(binary, folder)
+        dumps_of_small, others_of_small, edits_of_small, identities_of_small, of_items = make_small_elements(binary, folder)
         title = f"small elements, in milliseconds, the best of {chosen.rounds} rounds"
         print_best(f"Dumps of {title}", dumps_of_small, with_bound(run, folder), chosen.rounds)
         others = {name: program for name, program in run.items() if name != "cat"}
         print_best(f"Other work on {title}", others_of_small, others, chosen.rounds)
+        own = {name: program for name, program in run.items() if name in ("dcmtools", "before")}
+        print_best(f"Items and levels of {title}", of_items, own, chosen.rounds)
         converting_last = dict(reversed([item for item in editing.items() if item[0] != "cat"]))
         print_best(f"Edits of {title}", edits_of_small, converting_last, chosen.rounds)
         without_cat = {name: program for name, program in identity.items() if name != "cat"}
