@@ -44,7 +44,7 @@ MOST_WORDS = {
     "docs/users/BENCHMARKS.md": 515,
     "docs/users/COOKBOOK.md": 1_854,
     "docs/users/PROFILE.md": 5_665,
-    MANUAL: 3_480,
+    MANUAL: 3_500,
 }
 LONG, LONGEST, MOST_LONG = 30, 45, 20
 
