@@ -102,3 +102,4 @@ pub mod NumberAt
 pub mod ApartBy
 pub mod LinesBy
 pub mod IdealRun
+pub mod Statuses

@@ -8,6 +8,7 @@ pub mod Outputs
 pub mod Distinct
 pub mod Again
 pub mod Twice
+pub mod Status
 pub mod Part
 pub mod Single
 pub mod Shares

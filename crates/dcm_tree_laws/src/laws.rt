@@ -22,6 +22,7 @@ ghost use Rattle.dcm_tree_laws.specs.Part.{NoPartAfterRun, NoPartLeft, NoPartLef
 ghost use Rattle.dcm_tree_laws.specs.Shares.{ManifestOfShare, OneOutput, OneShare, RowsOfRuns};
 ghost use Rattle.dcm_tree_laws.specs.Single.{SingleRuns, SingleRunsOfList};
 ghost use Rattle.dcm_tree_laws.specs.Taken.{NothingTakenFlows};
+ghost use Rattle.dcm_tree_laws.specs.Status.{StatusSays, StatusSaysOfList};
 ghost use Rattle.dcm_tree_laws.specs.Told.{RowsAreTold};
 ghost use Rattle.dcm_tree_laws.specs.ToldAs.{RowsAreToldAs};
 ghost use Rattle.dcm_tree_laws.specs.Together.{FateIsTold, InstancesAreOne, NothingElse, NothingElseAs, PartsAreOne};
@@ -99,6 +100,18 @@ pub fn one_row<S: Folders, W: DeviceOut, E: DeviceOut>()
     ensures list { OneRowOfList (world S.may_do S.folders_do S.Input.DeviceIn S.Output.DeviceOut E.DeviceOut)
         W.DeviceOut }
     ensures run { OneRowOfRun (world S.may_do S.folders_do S.Input.DeviceIn S.Output.DeviceOut E.DeviceOut) W.DeviceOut }
+{}
+
+/// The exit status of a run is 0 exactly where each name is done: its output was written whole, or was there.
+///
+/// - The row of a DICOMDIR, which is left out, has the status 0 too.
+/// - All names were visited, and there was one at least. A list was read to its end.
+/// - A run that ends before its last name has another status. A run that visits no names has the status 4 (`one_row`).
+/// - This holds over any system, whatever calls fail.
+pub fn status_says<S: Folders, W: DeviceOut, E: DeviceOut>()
+    ensures folder { StatusSays (world S.may_do S.folders_do S.Input.DeviceIn S.Output.DeviceOut E.DeviceOut) W.DeviceOut }
+    ensures list { StatusSaysOfList (world S.may_do S.folders_do S.Input.DeviceIn S.Output.DeviceOut E.DeviceOut)
+        W.DeviceOut }
 {}
 
 /// A run over a folder visits each regular file below it exactly once.
