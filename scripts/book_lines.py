@@ -50,6 +50,9 @@ MORE = {"dcmdump": ["dcm_dumps.Words.asks_dumps", "dcm_dumps.DumpsProgram.ObeysD
 TREES = ["dcm_tree_words.Trees.meant_tree", "dcm_trees.Program.ObeysTree"]
 OF_TREES = ["dcmconv", "dcmodify", "dcmdeid"]
 
+# the laws of these runs
+LAWS_OF_TREES = ("crates/dcm_tree_laws/src/laws.rt", "crates/dcm_tree_laws/src/ideal.rt")
+
 # dcm2csv has no job: its rows, how far a file is read, what is done with it, and the words
 TABLE_PARTS = [
     ["dcm_tables.RowOf.RowOf", "dcm_table.Row.row_parts", "dcm_table.Parts.SpellsParts", "dcm_tables.Rows.file_lines", "dcm_tables.Rows.file_status"],
@@ -282,6 +285,19 @@ def trees_of(tool: str) -> dict:
     return reached(tool, TREES, {key for part in parts_of(tool) for key in part})
 
 
+def statements(path: str) -> list:
+    """The definitions that the laws of a file state."""
+    text = (ROOT / path).read_text()
+    return [f"{crate}.{file}.{name}" for crate, file, names in re.findall(r"^ghost use Rattle\.(\w+)\.specs\.(\w+)\.\{([^}]*)\};", text, re.M)
+            for name in names.split(", ") if re.search(rf"ensures \w+ {{ {name}\b", text)]
+
+
+def laws_of_trees(before: set) -> int:
+    """The lines that the laws of runs over trees take besides these."""
+    roots = [root for path in LAWS_OF_TREES for root in statements(path)]
+    return sum(reached("dcmdeid", roots, before).values())
+
+
 def counted(lines: dict, names: set) -> str:
     return f"{sum(count for key, count in lines.items() if key in names):,}"
 
@@ -296,8 +312,8 @@ def table() -> str:
         rows.append(f"| {tool} | {' | '.join(cells)} | {sum(sum(part.values()) for part in parts[tool]):,} |")
     trees = {tool: trees_of(tool) for tool in OF_TREES}
     more = ", ".join(f"{tool} {sum(lines.values()):,}" for tool, lines in trees.items())
-    rows.append(f"\nRuns over a folder (`+r`) add lines: {more}.")
     everything = {key for tool in JOBS for part in [*parts[tool], trees.get(tool, {})] for key in part}
+    rows.append(f"\nRuns over a folder (`+r`) add lines: {more}. Their laws add {laws_of_trees(everything):,}.")
     chosen = [book().definitions[file][name] for file, name in everything]
     lines = sum(len(chunk.head) + sum(map(len, chunk.cases)) for chunk in chosen)
     files = len({file for file, _ in everything})
@@ -309,7 +325,7 @@ def sound() -> str:
     """The lines of what is said of sound files."""
     between = {("dcm_cli.Answer", "Answers")}
     lines = {tool: sum(reached(tool, [f"dcm_sound.Laws.{name}"], between).values()) for tool, name in SOUND.items()}
-    return f"For sound files alone, as is said below: {', '.join(f'{tool} {count:,}' for tool, count in lines.items())} lines."
+    return f"For [sound files](#for-sound-files-alone): {', '.join(f'{tool} {count:,}' for tool, count in lines.items())} lines."
 
 
 def unnamed_files(page: str) -> list:
