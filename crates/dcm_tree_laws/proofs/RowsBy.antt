@@ -51,12 +51,12 @@ one_more m from to headed rows text put is = put ∙ ap (λ (known : Option (Lis
 
 -- ---- a visit
 
-pub rows_kept : (Old New : Visit → Done → Type 0) (shared : Shared) (keep : (v : Visit) (done : Done) → Old v done → New v done) (visits : List Visit) (text : List ℕ) → RowsOf Old shared visits text → RowsOf New shared visits text
+unfoldable pub rows_kept : (Old New : Visit → Done → Type 0) (shared : Shared) (keep : (v : Visit) (done : Done) → Old v done → New v done) (visits : List Visit) (text : List ℕ) → RowsOf Old shared visits text → RowsOf New shared visits text
 rows_kept Old New shared keep visits text (no_visit v t) = no_visit v t
 rows_kept Old New shared keep visits text (of_another earlier v rows none more) = of_another earlier v (rows_kept Old New shared keep earlier text rows) none more
 rows_kept Old New shared keep visits text (and_row earlier rest v done rows share so more is) = and_row earlier rest v done (rows_kept Old New shared keep earlier rest rows) share (keep v done so) more is
 
-pub visit_rows : {S I O F W E : Type 0} (w : World S I O F E) (m : Writer W) (shared : Shared) (headed : W) (Old New : Visit → Done → Type 0) (keep : (v : Visit) (done : Done) → Old v done → New v done)
+unfoldable pub visit_rows : {S I O F W E : Type 0} (w : World S I O F E) (m : Writer W) (shared : Shared) (headed : W) (Old New : Visit → Done → Type 0) (keep : (v : Visit) (done : Done) → Old v done → New v done)
     (from : Progress W) (told_before : E) (before : S) (n : Named) (what : What) (r : Result (Unit {0}) Stopped) (to : Progress W) (told : E) (after : S)
     (make : (done : Done) (mid : E) → DoesName w (manner_of shared.manner) n what told_before before (Ok done) mid after → New (visit_of n what) done)
     (earlier visits : List Visit) → visits ≡ earlier ++ visit_of n what ∷ [] → VisitsName w m shared from told_before before n what r to told after → to.stop ≡ None
@@ -84,7 +84,7 @@ visit_rows w m shared headed Old New keep from told_before before n what r to to
 pub no_manifest : {W : Type 0} (m : Writer W) (start headed : W) → start ≡ headed → m.contents start ≡ append_known (m.contents headed) []
 no_manifest m start headed is = same_manifest m start headed headed [] is (sym (known_nothing (m.contents headed)))
 
-pub no_rows : {W : Type 0} (m : Writer W) (IsSo : Visit → Done → Type 0) (shared : Shared) (headed start : W) → start ≡ headed → HasRows m IsSo shared headed [] start
+unfoldable pub no_rows : {W : Type 0} (m : Writer W) (IsSo : Visit → Done → Type 0) (shared : Shared) (headed start : W) → start ≡ headed → HasRows m IsSo shared headed [] start
 no_rows m IsSo shared headed start is = record { text = []; rows = no_visit refl refl; manifest_is = no_manifest m start headed is }
 
 -- ---- all of them

@@ -1,5 +1,5 @@
 -- The exit status of a run that visits its names.
-use Rattle.std.specs.Prelude.{◌≡◌, ◌≢◌, ℕ, max, List, [], ◌∷◌, Bool, true, false, Some, None}
+use Rattle.std.specs.Prelude.{◌≡◌, ◌≢◌, ℕ, max, List, [], Some, None}
 use Rattle.dcm_devices.specs.Writing.{Writer}
 use Rattle.dcm_cli.specs.Status.{DONE}
 use Rattle.dcm_trees.specs.declared.beginning.Begun.{Begun}

@@ -1,5 +1,5 @@
 -- A walk that is not stopped leaves a visitor of which is so what was so before, where each visit keeps it.
-use Rattle.std.proofs.Common.{◌≡◌, ◌∙◌, sym, ap, subst, ℕ, zero, suc, List, Bool, Option, Some, None, Result, Ok, Err}
+use Rattle.std.proofs.Common.{◌≡◌, ◌∙◌, sym, ap, subst, ℕ, zero, suc, List, Bool, Option, None, Ok}
 use Rattle.dcm_devices.specs.Writing.{Writer}
 use Rattle.dcm_files.specs.Folders.{FoldersDo}
 use Rattle.dcm_files.specs.declared.folders.Found.{Found}

@@ -1,5 +1,5 @@
 -- The status of a run that visits its names is 0 exactly where each row says that its name is done.
-use Rattle.std.proofs.Common.{◌≡◌, ◌≢◌, ◌∙◌, refl, sym, ap, subst, ℕ, max, List, [], ◌∷◌, ◌++◌, Bool, true, false, Option, Some, None, Result, Ok, Err}
+use Rattle.std.proofs.Common.{◌≡◌, ◌≢◌, ◌∙◌, arith, refl, sym, ap, subst, ℕ, max, List, [], ◌∷◌, ◌++◌, Bool, true, false, Option, Some, None, Result, Ok, Err}
 use Rattle.dcm_devices.specs.Writing.{Writer}
 use Rattle.dcm_walk.specs.Folder.{WalksFolder}
 use Rattle.dcm_walk.specs.List.{WalksList}
@@ -8,7 +8,6 @@ use Rattle.dcm_walk.specs.declared.list.ListEnd.{ListEnd}
 use Rattle.dcm_walk.specs.declared.visitor.Stopped.{Stopped}
 use Rattle.dcm_walk.specs.declared.visitor.What.{What}
 use Rattle.dcm_cli.specs.Status.{DONE}
-use Rattle.dcm_trees.specs.declared.beginning.Begun.{Begun}
 use Rattle.dcm_trees.specs.declared.file.Done.{Done}
 use Rattle.dcm_trees.specs.declared.progress.Shared.{Shared}
 use Rattle.dcm_trees.specs.declared.progress.Stop.{Stop}
@@ -16,18 +15,17 @@ use Rattle.dcm_trees.specs.declared.progress.Stop.TheVariants as stops
 use Rattle.dcm_trees.specs.declared.progress.Work.{Work}
 use Rattle.dcm_trees.specs.declared.run.End.{End}
 use Rattle.dcm_trees.specs.declared.run.End.TheVariants.{Whole, Unread, Stopped as WasStopped}
-use Rattle.dcm_trees.specs.declared.run.TreeRun.{TreeRun}
 use Rattle.dcm_trees.specs.Fate.{status as fate_status}
 use Rattle.dcm_trees.specs.File.{DoesName}
 use Rattle.dcm_trees.specs.Manner.{manner_of}
-use Rattle.dcm_trees.specs.Run.{end_by, end_of, end_of_list, end_status}
-use Rattle.dcm_trees.specs.Tree.{VisitsAll, VisitsListed, as_list}
+use Rattle.dcm_trees.specs.Run.{end_by, end_of, end_status}
+use Rattle.dcm_trees.specs.Tree.{as_list}
 use Rattle.dcm_trees.specs.Work as spec
 use Rattle.dcm_trees.specs.Work.{Progress, VisitsName, progress, visits_of}
 use Rattle.dcm_trees.specs.World.{World}
-use Rattle.dcm_tree_laws.specs.OneRow.{Became, RowsOf, no_visit, of_another, and_row, FolderHasRows, ListHasRows}
+use Rattle.dcm_tree_laws.specs.OneRow.{Became, RowsOf, no_visit, of_another, and_row}
 use Rattle.dcm_tree_laws.specs.Rows.{Visit, noted}
-use Rattle.dcm_tree_laws.specs.Status.{greatest, IsDone, StatusIs, FolderSays, ListSays, StatusSays, StatusSaysOfList}
+use Rattle.dcm_tree_laws.specs.Status.{greatest, IsDone, StatusIs, StatusSays, StatusSaysOfList}
 use Rattle.dcm_tree_laws.specs.Twice.{OfRows}
 use Rattle.dcm_tree_laws.proofs.Lists.{lines_do}
 use Rattle.dcm_tree_laws.proofs.Noted.{walk_noted, list_noted}
@@ -40,6 +38,7 @@ use Rattle.dcm_tree_laws.proofs.Walks.{VisitsDo, walks_do}
 
 greatest_kept : (Old New : Visit → Done → Type 0) (shared : Shared) (keep : (v : Visit) (done : Done) → Old v done → New v done) (visits : List Visit) (text : List ℕ) (rows : RowsOf Old shared visits text)
     → greatest (rows_kept Old New shared keep visits text rows) ≡ greatest rows
+unfolding rows_kept
 greatest_kept Old New shared keep visits text (no_visit v t) = refl
 greatest_kept Old New shared keep visits text (of_another earlier v rows none more) = greatest_kept Old New shared keep earlier text rows
 greatest_kept Old New shared keep visits text (and_row earlier rest v done rows share so more is) = ap (λ s. max s (fate_status done.fate)) (greatest_kept Old New shared keep earlier rest rows)
@@ -64,7 +63,7 @@ of_each visits text (and_row earlier rest v done rows share so more same) each =
 
 -- ---- whether a name came
 
-is_none : List Visit → Bool
+abbrev is_none : List Visit → Bool
 is_none [] = true
 is_none (v ∷ visits) = false
 
@@ -77,8 +76,8 @@ none_is [] is = λ e. absurd (cc)
 none_is (v ∷ visits) is = λ e. absurd (cc)
 
 some_is : (visits : List Visit) → visits ≢ [] → is_none visits ≡ false
-some_is [] no = absurd (no refl)
-some_is (v ∷ visits) no = refl
+some_is [] some = absurd (some refl)
+some_is (v ∷ visits) some = refl
 
 -- ---- the rows so far, with their status
 
@@ -98,6 +97,7 @@ module _ {S I O F W E : Type 0} (w : World S I O F E) (m : Writer W) (shared : S
       (make : (done : Done) (mid : E) → DoesName w (manner_of shared.manner) n what told_before before (Ok done) mid after → IsSo (visit_of n what) done)
       (earlier visits : List Visit) → visits ≡ earlier ++ visit_of n what ∷ [] → VisitsName w m shared from told_before before n what r to told after → to.stop ≡ None
       → (from.stop ≡ None → Has earlier from) → Has visits to
+  unfolding visit_rows rows_kept
   visit_status from told_before before n what r to told after make earlier visits more (spec.of_another none is t same ok) stop had =
       let was : Has earlier from = had (sym (ap (λ p. p.stop) is) ∙ stop) in
       record {
@@ -142,6 +142,7 @@ visits_good w m shared headed from before n what r to after v good = record {
 }
 
 first : {S I O F W E : Type 0} (w : World S I O F E) (m : Writer W) (headed : W) (start : Work W) (from : E) → progress start ≡ spec.nothing_done headed → Good w m start.shared headed ((start, from), [])
+unfolding no_rows
 first w m headed start from is = record {
   same = refl;
   rows = λ none. record {
