@@ -33,13 +33,18 @@ pub enum Ending {
 /// What is remarked of an input as far as it was read. It changes no status.
 #[derive(Clone, Copy, Debug, PartialEq, Eq)]
 pub struct Remarks {
+    /// PatientID is to become a pseudonym, and names nobody.
+    pub unnamed: bool,
     /// How many dates that were moved have nothing left.
     pub emptied: u64,
 }
 
 impl Remarks {
     /// Nothing is.
-    pub const NONE: Remarks = Remarks { emptied: 0 };
+    pub const NONE: Remarks = Remarks {
+        unnamed: false,
+        emptied: 0,
+    };
 }
 
 /// How the work on a job ended, and what is remarked of its input.

@@ -22,7 +22,7 @@ ghost use Rattle.dcm_base.specs.Tables.Dictionary.{vr_in};
 ghost use Rattle.dcm_base.specs.Tables.Representation.{is_sequence};
 ghost use Rattle.dcm_base.specs.declared.dictionary.Dictionary.TheVariants.{Standard};
 ghost use Rattle.dcm_deid.specs.declared.fate.Fate.TheVariants.{Keep, Remove};
-ghost use Rattle.dcm_deid.specs.Laws.{BarSteps, DateSteps, DeidentifySteps, PixelSteps};
+ghost use Rattle.dcm_deid.specs.Laws.{BarSteps, DateSteps, DeidentifySteps, NobodySteps, PixelSteps};
 ghost use Rattle.dcm_deid.specs.Pairs.{Pairs};
 ghost use Rattle.dcm_deid.specs.Remains.{AreMadeAnew, IsClean, kept_of};
 ghost use Rattle.dcm_deid.specs.Research.{OthersBecomeTheSame, PatientsGetPseudonyms};
@@ -101,6 +101,13 @@ pub fn pixel_steps()
 /// that is moved, has more than padding, and has nothing in its place.
 pub fn dates_are_counted()
     ensures { DateSteps }
+{}
+
+/// After a data set, whole or as far as it was read, a sink knows whether its PatientID names nobody. It does so where
+/// its value is padding alone or too long, and where none can come: an element has its place that is no value or
+/// belongs behind it, or the data set has ended.
+pub fn nobody_is_known()
+    ensures { NobodySteps }
 {}
 
 /// What stays has a tag of the dictionary, and if it was read as bytes it is no sequence there.
