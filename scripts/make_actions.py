@@ -39,8 +39,8 @@ KEPT_HEADER = """//! Numbers of elements that are kept whatever the options are.
 //! `scripts/make_actions.py --kept-numbers` wrote this file from `data/deidentify.tsv`.
 """
 KEPT_TABLE_HEADER = """
-/// Numbers of {what} that each option keeps, wherever they are, each at its own place. At
-/// a place that none of them has is any of them.
+/// The tags of {what} that each option keeps at all depths. Each tag has a place of its own, by its
+/// hash. A place without such a tag holds any of them.
 #[rattlefmt::skip]
 pub const {name}: [u32; {places}] = [
 """

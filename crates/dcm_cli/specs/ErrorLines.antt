@@ -104,6 +104,14 @@ abbrev pub emptied_lines : (count : ℕ) → List ℕ
 emptied_lines zero = []
 emptied_lines (suc n) = emptied_line (suc n)
 
+-- PatientID names nobody, of whom a pseudonym could be made
+abbrev pub nobody_line : List ℕ
+nobody_line = error_line (codes "no pseudonym: PatientID names nobody")
+
+abbrev pub nobody_lines : (unnamed : Bool) → List ℕ
+nobody_lines true = nobody_line
+nobody_lines false = []
+
 -- the key cannot be opened, or cannot be read
 abbrev pub key_line : (was_opened : Bool) → List ℕ
 key_line false = error_line (codes "key cannot be opened")

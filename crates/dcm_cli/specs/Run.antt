@@ -22,7 +22,7 @@ use Rattle.dcm_cli.specs.declared.ending.Ending.TheVariants.{Unread, Output}
 use Rattle.dcm_cli.specs.declared.ending.Verdict.{Verdict}
 use Rattle.dcm_cli.specs.declared.ending.Verdict.TheVariants.{Done, PixelsMayShow, Refused, RefusedLine}
 use Rattle.dcm_cli.specs.Answer.{Answer, Source, unopened, file, alone, InputReads, output_of, edits_of, building_line}
-use Rattle.dcm_cli.specs.Answer.{HeadIs, job_bar, job_dictionary, set_at, shows_identity}
+use Rattle.dcm_cli.specs.Answer.{HeadIs, going_on, job_bar, job_dictionary, set_at, shows_identity}
 use Rattle.dcm_cli.specs.Answer.{Answers, Sure}
 use Rattle.dcm_cli.specs.InputCalls.{How, Allows}
 use Rattle.dcm_cli.specs.Change.{Change}
@@ -123,7 +123,7 @@ pub data FileRemarked (job : Job) (p : List ℕ) (remarks : Remarks) : Type 0 wh
   within_its_set : (m : Meta) (group : List ℕ) (coding : Coding) (set : Front) (stop : Stop)
       → HeadIs (job_dictionary job) p m group coding → set_at group < length p
       → Reads (job_bar job coding) coding.syntax (set_at group) (drop (set_at group) p) set stop
-      → is_undecided (Some stop) ≡ true → remarks ≡ remarks_at job set → FileRemarked job p remarks
+      → is_undecided (Some stop) ≡ true → remarks ≡ remarks_at job (going_on set) → FileRemarked job p remarks
 
 abbrev pub SoFarRemarked : Job → (p : List ℕ) → Remarks → Type 0
 SoFarRemarked (deidentify options reports key) p remarks = FileRemarked (deidentify options reports key) p remarks

@@ -5,6 +5,7 @@ ghost use Rattle.dcm_base.specs.Reading.Reads.{INPUT_LIMIT};
 ghost use Rattle.dcm_files.specs.Pieces.{BUFFER_LIMIT};
 ghost use Rattle.dcm_cli.specs.Calls as calls;
 ghost use Rattle.dcm_cli.specs.DeidentifyPass as deidentify_pass;
+ghost use Rattle.dcm_cli.specs.EditPass.{first_of};
 ghost use Rattle.dcm_cli.specs.Opening as opening;
 ghost use Rattle.dcm_cli.specs.Pass as spec;
 
@@ -12,7 +13,7 @@ use crate::ending::{Ended, Ending, Remarks, Verdict, remarking_nothing};
 use crate::pass::read_set;
 use crate::rewrite::{NewHead, Opened, PIECE, open_file};
 use dcm_base::{DeviceIn, DeviceOut, Dictionary, Watched};
-use dcm_deid::{DeidentifySink, MetaWithoutIdentity};
+use dcm_deid::{DeidentifySink, MetaWithoutIdentity, WithPatient};
 use dcm_sinks::EncodeSink;
 use dcm_stream::Sink;
 use dcm_words::Deidentify;
@@ -27,6 +28,47 @@ fn with_pixels(ending: Ending, reports: bool, may_show: bool) -> Ending
         }
         _ => ending,
     }
+}
+
+/// Whether the input has ended with its data set, without fault.
+fn ends_whole(ending: Ending) -> bool
+    ensures { result ≡ deidentify_pass.ends_whole ending }
+{
+    match ending {
+        Ending::Worked(Verdict::Done { .. } | Verdict::PixelsMayShow) => true,
+        Ending::Worked(Verdict::Refused(_) | Verdict::RefusedLine(_)) => false,
+        Ending::Unread(_) | Ending::Output => false,
+    }
+}
+
+/// Reads the data set of a file into a sink, and answers how that ended, and whether PatientID names nobody, where that
+/// is asked.
+fn read_noting<R: DeviceIn, S: Sink>(
+    asked: bool,
+    opened: Opened,
+    input: &mut Watched<R>,
+    buffer: &mut [u8],
+    sink: &mut S,
+) -> (Ending, bool)
+    requires start { opened.start ≤ INPUT_LIMIT }
+    requires room { 0 < length buffer.old }
+    requires bound { length buffer.old ≤ BUFFER_LIMIT }
+    requires within { spec.IsWithin opened.beginning buffer.old }
+    requires count { opened.start + length (spec.set_bytes opened.beginning buffer.old) ≡ opened.beginning.read }
+    ensures { deidentify_pass.ReadsNoting S.Sink R.DeviceIn asked sink.old sink.new input.old input.new
+        (spec.set_bytes opened.beginning buffer.old) (first_of opened) opened.beginning.is_over result.0 result.1 }
+{
+    let mut noting = WithPatient::new(asked, sink);
+    let ending = read_set(
+        opened.beginning,
+        opened.coding,
+        opened.start,
+        input,
+        buffer,
+        &mut noting,
+    );
+    let unnamed = noting.names_nobody(ends_whole(ending));
+    (ending, unnamed)
 }
 
 /// Reads the data set of a file without identity into a sink.
@@ -46,10 +88,9 @@ fn read_deidentified<R: DeviceIn, S: Sink>(
         sink.old sink.new input.old input.new opened buffer.old result }
 {
     let mut deidentified = DeidentifySink::new(what.options, what.key.as_slice(), sink);
-    let ending = read_set(
-        opened.beginning,
-        opened.coding,
-        opened.start,
+    let (ending, unnamed) = read_noting(
+        what.options.pseudonyms,
+        opened,
         input,
         buffer,
         &mut deidentified,
@@ -57,7 +98,7 @@ fn read_deidentified<R: DeviceIn, S: Sink>(
     let ending = with_pixels(ending, what.reports, deidentified.pixels_may_show());
     let emptied = deidentified.dates_emptied();
     Ended {
-        remarks: Remarks { emptied },
+        remarks: Remarks { unnamed, emptied },
         ending,
     }
 }

@@ -33,13 +33,18 @@ pub enum Ending {
 /// What is told of an input without a change of the status, as far as the input was read.
 #[derive(Clone, Copy, Debug, PartialEq, Eq)]
 pub struct Remarks {
+    /// PatientID is to become a pseudonym, and names nobody.
+    pub unnamed: bool,
     /// How many shifted dates became empty.
     pub emptied: u64,
 }
 
 impl Remarks {
     /// Nothing to tell.
-    pub const NONE: Remarks = Remarks { emptied: 0 };
+    pub const NONE: Remarks = Remarks {
+        unnamed: false,
+        emptied: 0,
+    };
 }
 
 /// How the work on a job ended, and what is remarked of its input.

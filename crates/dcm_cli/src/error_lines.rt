@@ -222,6 +222,19 @@ pub fn tell_pixels<E: DeviceOut>(errors: &mut Watched<E>)
     );
 }
 
+/// Writes that there is no pseudonym where PatientID names nobody.
+pub fn put_nobody<E: DeviceOut>(unnamed: bool, errors: &mut Watched<E>) -> Result<(), WriteFailed>
+    ensures { Wrote E.DeviceOut errors.old errors.new (spec.nobody_lines unnamed) result }
+{
+    if !unnamed {
+        return Ok(());
+    }
+    put_line(
+        errors,
+        &[b"dcmtools: no pseudonym: PatientID names nobody\n".as_slice()],
+    )
+}
+
 /// Writes how many shifted dates became empty, if there are any.
 pub fn put_emptied<E: DeviceOut>(count: u64, errors: &mut Watched<E>) -> Result<(), WriteFailed>
     ensures { Wrote E.DeviceOut errors.old errors.new (spec.emptied_lines count) result }

@@ -3,7 +3,7 @@ ghost use Rattle.std.specs.Prelude.{◌≡◌, ◌≤◌, true, false};
 ghost use Rattle.dcm_cli.specs.Calls as calls;
 ghost use Rattle.dcm_cli.specs.Calls.{Runs};
 ghost use Rattle.dcm_cli.specs.Change.{change_of};
-ghost use Rattle.dcm_cli.specs.Remarks as remarks;
+ghost use Rattle.dcm_cli.specs.Remarks as remarked;
 ghost use Rattle.dcm_cli.specs.Run as spec;
 ghost use Rattle.dcm_cli.specs.Status as statuses;
 ghost use Rattle.dcm_devices.specs.Writing.{Wrote};
@@ -13,9 +13,10 @@ use crate::build::build;
 use crate::convert::convert;
 use crate::deidentify::deidentify;
 use crate::dump::dump;
-use crate::ending::{Ended, Ending, Verdict, remarking_nothing};
+use crate::ending::{Ended, Ending, Remarks, Verdict, remarking_nothing};
 use crate::error_lines::{
-    put_emptied, tell_fault, tell_line_fault, tell_output, tell_pixels, tell_unplaced, tell_unread,
+    put_emptied, put_nobody, tell_fault, tell_line_fault, tell_output, tell_pixels, tell_unplaced,
+    tell_unread,
 };
 use crate::modify::modify;
 use crate::status::{DEVICE, DONE, FAULT, REMARK};
@@ -123,13 +124,24 @@ fn ending_status(ending: Ending) -> u8
     }
 }
 
+/// Writes what is remarked.
+fn put_all_remarks<E: DeviceOut>(
+    remarks: Remarks,
+    errors: &mut Watched<E>,
+) -> Result<(), WriteFailed>
+    ensures { Wrote E.DeviceOut errors.old errors.new (remarked.remark_lines remarks) result }
+{
+    put_nobody(remarks.unnamed, errors)?;
+    put_emptied(remarks.emptied, errors)
+}
+
 /// Writes what is remarked, unless the output failed.
 fn put_remarks<E: DeviceOut>(ended: Ended, errors: &mut Watched<E>) -> Result<(), WriteFailed>
-    ensures { Wrote E.DeviceOut errors.old errors.new (remarks.remarks_told ended.ending ended.remarks) result }
+    ensures { Wrote E.DeviceOut errors.old errors.new (remarked.remarks_told ended.ending ended.remarks) result }
 {
     match ended.ending {
         Ending::Output => Ok(()),
-        Ending::Worked(_) | Ending::Unread(_) => put_emptied(ended.remarks.emptied, errors),
+        Ending::Worked(_) | Ending::Unread(_) => put_all_remarks(ended.remarks, errors),
     }
 }
 

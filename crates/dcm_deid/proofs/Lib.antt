@@ -23,6 +23,10 @@ pub mod Walked
 pub mod OpenParts
 pub mod Bars
 pub mod PatientSteps
+pub mod PatientAtoms
+pub mod PatientOpen
+pub mod PatientTold
+pub mod NotedPatient
 pub mod PutOnes
 pub mod Weave
 pub mod Woven

@@ -8,3 +8,4 @@ pub mod Paired
 pub mod Known
 pub mod Instances
 pub mod Vanished
+pub mod Unnamed

@@ -1,10 +1,10 @@
 -- The statements of the laws of the sink.
-use Rattle.std.specs.Prelude.{ℕ, ◌≤◌, List, Option, fold, ◌≡◌}
+use Rattle.std.specs.Prelude.{ℕ, ◌≤◌, List, Option, fold, ◌≡◌, Bool, ◌&&◌}
 use Rattle.dcm_base.specs.Tree.Front.{Front}
 use Rattle.dcm_base.specs.Tree.Tree.{Trees}
 use Rattle.dcm_base.specs.Lines.Ascending.{FrontAscends}
 use Rattle.dcm_base.specs.Steps.Anew.{reached_anew}
-use Rattle.dcm_base.specs.Steps.Atoms.{Atom, Shows}
+use Rattle.dcm_base.specs.Steps.Atoms.{Atom, Shows, is_closed}
 use Rattle.dcm_base.specs.Steps.Steps.{outputs}
 use Rattle.dcm_base.specs.declared.tag.Tag.{Tag}
 use Rattle.dcm_base.specs.declared.vr.Vr.{Vr}
@@ -18,6 +18,8 @@ use Rattle.dcm_deid.specs.Emptied.{dates_emptied}
 use Rattle.dcm_deid.specs.MadeNew.{made_new}
 use Rattle.dcm_deid.specs.Pixels.{may_show}
 use Rattle.dcm_deid.specs.Saying.{deidentified, read_whole, whole_of}
+use Rattle.dcm_deid.specs.Unnamed.{names_nobody}
+use Rattle.dcm_deid.specs.WithPatient.{is_unnamed, noted, noting}
 
 -- what the sink passes on of the atoms of a data set, whole or as far as it was read, shows it without identity
 abbrev pub DeidentifySteps : Type 0
@@ -49,3 +51,10 @@ DateSteps =
     (options : Options) (key : List ℕ) (f : Front) (atoms : List Atom) → StaysShallow 0 atoms → Shows f atoms
     → dates_emptied options (made_new options key) f ≤ MOST_COUNTED
     → (fold next (begun options key) atoms).place.seen.emptied ≡ dates_emptied options (made_new options key) f
+
+-- after a data set, whole or as far as it was read, the sink that notes whom PatientID names knows whether that is
+-- nobody, where that is asked
+abbrev pub NobodySteps : Type 0
+NobodySteps =
+    (asked : Bool) (f : Front) (atoms : List Atom) → StaysShallow 0 atoms → Shows f atoms
+    → is_unnamed (fold noted (noting asked) atoms) (is_closed f) ≡ (asked && names_nobody f)

@@ -10,11 +10,13 @@ pub mod Saying
 pub mod Pairs
 pub mod Pixels
 pub mod Emptied
+pub mod Unnamed
 pub mod DeidentifySink
 pub mod Deidentifying
 pub mod Patient
 pub mod Noting
 pub mod Through
+pub mod WithPatient
 pub mod Laws
 pub mod Meta
 pub mod Uids

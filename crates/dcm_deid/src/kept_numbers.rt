@@ -263,8 +263,8 @@ pub const KEPT_VALUES: [u32; 2048] = [
     0x0000_0001, 0x0018_5024, 0x0018_9178, 0x0028_7006, 0x300A_0129, 0x0000_0001, 0x0008_0115, 0x0000_0001,
 ];
 
-/// The tags of sequences that each option keeps at all depths. Each tag has a place of its own, by its hash. A place
-/// without such a tag holds any of them.
+/// The tags of sequences that each option keeps at all depths. Each tag has a place of its own, by its
+/// hash. A place without such a tag holds any of them.
 #[rattlefmt::skip]
 pub const KEPT_SEQUENCES: [u32; 2048] = [
     0x0004_1220, 0x0004_1220, 0x3006_00CB, 0x2130_0060, 0x0004_1220, 0x0018_980E, 0x0004_1220, 0x0004_1220,

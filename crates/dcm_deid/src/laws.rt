@@ -22,7 +22,7 @@ ghost use Rattle.dcm_base.specs.Tables.Dictionary.{vr_in};
 ghost use Rattle.dcm_base.specs.Tables.Representation.{is_sequence};
 ghost use Rattle.dcm_base.specs.declared.dictionary.Dictionary.TheVariants.{Standard};
 ghost use Rattle.dcm_deid.specs.declared.fate.Fate.TheVariants.{Keep, Remove};
-ghost use Rattle.dcm_deid.specs.Laws.{BarSteps, DateSteps, DeidentifySteps, PixelSteps};
+ghost use Rattle.dcm_deid.specs.Laws.{BarSteps, DateSteps, DeidentifySteps, NobodySteps, PixelSteps};
 ghost use Rattle.dcm_deid.specs.Pairs.{Pairs};
 ghost use Rattle.dcm_deid.specs.Remains.{AreMadeAnew, IsClean, kept_of};
 ghost use Rattle.dcm_deid.specs.Research.{OthersBecomeTheSame, PatientsGetPseudonyms};
@@ -109,6 +109,15 @@ pub fn pixel_steps()
 /// - This holds of data sets that are cut off too.
 pub fn dates_are_counted()
     ensures { DateSteps }
+{}
+
+/// After a data set, whole or as far as it was read, dcmdeid knows whether its PatientID names nobody.
+///
+/// - A PatientID names nobody where its value is padding alone or too long, and where no value can come.
+/// - No value can come after an element in its place that is no value, after an element that belongs behind it, and
+///   after the end of the data set.
+pub fn nobody_is_known()
+    ensures { NobodySteps }
 {}
 
 /// Each element that remains has a tag of the dictionary, and a value that was read as bytes is no sequence by the

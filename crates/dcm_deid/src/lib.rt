@@ -7,6 +7,7 @@
 //!   many dates vanished.
 //! - `MetaWithoutIdentity` and `meta_fate` say what stays of the head of a file, and `NO_PREAMBLE` is its new preamble.
 //! - `PatientSink` takes the tokens up to the patient, whose `Naming` then says by which days dates are moved.
+//!   `WithPatient` lies before another sink, and knows whether PatientID names nobody.
 //! - `laws` has what is gone, what stays, and that nothing of what is taken out flows.
 //!
 //! A name is emptied:
@@ -30,6 +31,7 @@ mod said;
 mod sink;
 mod table;
 mod whole;
+mod with_patient;
 
 pub use deidentifier::form_after;
 pub use fate::{Depth, Fate, NewValue, Options, ReadAs, Retain, Temporal, fate_of};
@@ -37,3 +39,4 @@ pub use meta::{MetaFate, MetaWithoutIdentity, NO_PREAMBLE, meta_fate};
 pub use patient::{Naming, PatientSink, UpToPatient};
 pub use sink::DeidentifySink;
 pub use table::{ACTIONS, Action};
+pub use with_patient::WithPatient;

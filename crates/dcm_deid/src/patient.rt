@@ -4,7 +4,7 @@ ghost use Rattle.dcm_base.specs.Reading.Bars as bars;
 ghost use Rattle.dcm_deid.specs.Deidentifying.{held, place};
 ghost use Rattle.dcm_deid.specs.Patient as spec;
 ghost use Rattle.dcm_stream.specs.Skip.{depth};
-ghost use Rattle.dcm_stream.specs.Tokens.{atoms_of};
+ghost use Rattle.dcm_stream.specs.Tokens.{atoms_of, whole_atoms};
 
 use crate::deidentifier::{Deidentifier, form_after};
 use crate::fate::{Depth, Fate, Options, PATIENT_ID, Temporal};
@@ -196,7 +196,8 @@ impl PatientSink {
     }
 
     /// After a token.
-    fn go_on(&mut self, token: Token)
+    #[inline(always)]
+    pub fn go_on(&mut self, token: Token)
         ensures { self.new ≡ fold spec.patient_next self.old (atoms_of token.entry) }
     {
         match token {
@@ -213,6 +214,16 @@ impl PatientSink {
             Token::CloseItem | Token::CloseSeq => self.skip.close(),
             Token::End => {}
         }
+    }
+
+    /// After an element with its whole value.
+    #[inline(always)]
+    pub fn go_on_whole(&mut self, head: Head, syntax: Syntax, value: &[u8])
+        ensures { self.new ≡ fold spec.patient_next self.old (whole_atoms head syntax value.now) }
+    {
+        self.go_on(Token::Open(head, syntax));
+        self.go_on(Token::Bytes(value));
+        self.go_on(Token::CloseLeaf);
     }
 }
 

@@ -55,6 +55,14 @@ abbrev pub emptied_lines : List ℕ → (count : ℕ) → List ℕ
 emptied_lines name zero = []
 emptied_lines name (suc n) = emptied_line name (suc n)
 
+-- its PatientID names nobody, of whom a pseudonym could be made
+abbrev pub nobody_line : List ℕ → List ℕ
+nobody_line name = named_line name (codes "no pseudonym: PatientID names nobody")
+
+abbrev pub nobody_lines : List ℕ → (unnamed : Bool) → List ℕ
+nobody_lines name true = nobody_line name
+nobody_lines name false = []
+
 -- a value of Specific Character Set in it names what is not known
 abbrev pub unknown_line : List ℕ → List ℕ
 unknown_line name = named_line name (codes "character set is not known")

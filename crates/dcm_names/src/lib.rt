@@ -24,7 +24,7 @@ mod shown;
 pub use list::{MOST_OF_NAME, OpenLine, can_be_opened};
 pub use list_reader::{ListReader, NextName};
 pub use named_lines::{
-    put_at_once, put_clash, put_emptied, put_fault, put_refusal, put_text, put_too_long,
-    put_unknown, put_unopened, put_unplaced, put_unread,
+    put_at_once, put_clash, put_emptied, put_fault, put_nobody, put_refusal, put_text,
+    put_too_long, put_unknown, put_unopened, put_unplaced, put_unread,
 };
 pub use shown::shown_name;

@@ -226,6 +226,28 @@ pub fn put_emptied<E: DeviceOut>(
     put_some_emptied(name, count, errors)
 }
 
+/// Reports that PatientID of a file names nobody, of whom a pseudonym could be made. Fails where the writer fails.
+fn put_no_pseudonym<E: DeviceOut>(name: &[u8], errors: &mut Watched<E>) -> Result<(), WriteFailed>
+    ensures { Wrote E.DeviceOut errors.old errors.new (spec.nobody_line name.now) result }
+{
+    let text = [b"no pseudonym: PatientID names nobody".as_slice()];
+    put_named(name, &text, errors)
+}
+
+/// The same where that is so, and else nothing.
+pub fn put_nobody<E: DeviceOut>(
+    name: &[u8],
+    unnamed: bool,
+    errors: &mut Watched<E>,
+) -> Result<(), WriteFailed>
+    ensures { Wrote E.DeviceOut errors.old errors.new (spec.nobody_lines name.now unnamed) result }
+{
+    if !unnamed {
+        return Ok(());
+    }
+    put_no_pseudonym(name, errors)
+}
+
 /// Reports that a value of Specific Character Set in a file names what is not known. Fails where the writer fails.
 fn put_unknown_set<E: DeviceOut>(name: &[u8], errors: &mut Watched<E>) -> Result<(), WriteFailed>
     ensures { Wrote E.DeviceOut errors.old errors.new (spec.unknown_line name.now) result }

@@ -1,5 +1,4 @@
 -- Whom a file names, and where its first reading ends.
-pub mod Atoms
 pub mod UpTo
 pub mod Decided
 pub mod AsFar

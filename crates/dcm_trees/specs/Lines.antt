@@ -1,6 +1,7 @@
 -- What is told of a file of a tree, and what became of it.
 use Rattle.std.specs.Prelude.{ℕ, zero, suc, ◌/◌, ◌%◌, ◌==◌, List, [], ◌++◌, codes, Bool, if◌then◌else◌}
-use Rattle.dcm_names.specs.NamedLines.{emptied_lines, named_line, fault_line, unread_line, unplaced_line, unopened_line}
+use Rattle.dcm_names.specs.NamedLines.{emptied_lines, named_line, nobody_lines, fault_line, unread_line}
+use Rattle.dcm_names.specs.NamedLines.{unplaced_line, unopened_line}
 use Rattle.dcm_cli.specs.declared.ending.Ending.{Ending}
 use Rattle.dcm_cli.specs.declared.ending.Ending.TheVariants.{Worked, Unread, Output}
 use Rattle.dcm_cli.specs.declared.ending.Remarks.{Remarks}
@@ -51,10 +52,14 @@ ending_lines name (Worked verdict) = verdict_lines name verdict
 ending_lines name (Unread count) = unread_line name count
 ending_lines name Output = output_line name
 
--- what is remarked is told before, unless the output failed
+-- what is remarked
+abbrev pub remark_lines : (name : List ℕ) → Remarks → List ℕ
+remark_lines name remarks = nobody_lines name remarks.unnamed ++ emptied_lines name remarks.emptied
+
+-- it is told before, unless the output failed
 abbrev pub remarks_told : (name : List ℕ) → Ending → Remarks → List ℕ
-remarks_told name (Worked verdict) remarks = emptied_lines name remarks.emptied
-remarks_told name (Unread count) remarks = emptied_lines name remarks.emptied
+remarks_told name (Worked verdict) remarks = remark_lines name remarks
+remarks_told name (Unread count) remarks = remark_lines name remarks
 remarks_told name Output remarks = []
 
 abbrev pub ended_lines : (name : List ℕ) → Ending → Remarks → List ℕ

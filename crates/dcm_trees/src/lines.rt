@@ -9,9 +9,9 @@ use crate::fate::Fate;
 use crate::place::Place;
 use crate::task::NoDays;
 use dcm_base::{DeviceOut, Stop, Watched, WriteFailed};
-use dcm_cli::ending::{Ended, Ending, Verdict};
+use dcm_cli::ending::{Ended, Ending, Remarks, Verdict};
 use dcm_editor::MOST_EDITS;
-use dcm_names::{put_emptied, put_fault, put_text, put_unplaced, put_unread};
+use dcm_names::{put_emptied, put_fault, put_nobody, put_text, put_unplaced, put_unread};
 
 /// Tells a text of a name.
 pub fn tell_text<E: DeviceOut>(name: &[u8], text: &[u8], errors: &mut Watched<E>)
@@ -141,6 +141,18 @@ fn ending_fate(ending: Ending) -> Fate
     }
 }
 
+/// Writes the lines of what is remarked of a file.
+fn put_all_remarks<E: DeviceOut>(
+    name: &[u8],
+    remarks: Remarks,
+    errors: &mut Watched<E>,
+) -> Result<(), WriteFailed>
+    ensures { Wrote E.DeviceOut errors.old errors.new (spec.remark_lines name.now remarks) result }
+{
+    put_nobody(name, remarks.unnamed, errors)?;
+    put_emptied(name, remarks.emptied, errors)
+}
+
 /// Writes what is remarked of a file, unless its output failed.
 fn put_remarks<E: DeviceOut>(
     name: &[u8],
@@ -151,7 +163,7 @@ fn put_remarks<E: DeviceOut>(
 {
     match ended.ending {
         Ending::Output => Ok(()),
-        Ending::Worked(_) | Ending::Unread(_) => put_emptied(name, ended.remarks.emptied, errors),
+        Ending::Worked(_) | Ending::Unread(_) => put_all_remarks(name, ended.remarks, errors),
     }
 }
 

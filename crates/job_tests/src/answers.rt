@@ -7,8 +7,9 @@ mod rebuilt;
 
 use crate::runs::{
     buildings, conversions, dictionaries, expect_rows, identities, identity_emptied,
-    identity_faults, identity_heads, identity_moved, identity_named, identity_put, modifications,
-    named_elements, signs, text_cuts, text_extensions, text_sets, text_terms, unknown,
+    identity_faults, identity_heads, identity_moved, identity_named, identity_put,
+    identity_unnamed, modifications, named_elements, signs, text_cuts, text_extensions, text_sets,
+    text_terms, unknown,
 };
 use std::test::Fail;
 
@@ -71,7 +72,8 @@ fn takes_identity_out(rt: HostRuntime) -> Result<(), Fail> {
 fn moves_dates_and_gives_pseudonyms(rt: HostRuntime) -> Result<(), Fail> {
     expect_rows(rt.alloc(), &identity_moved())?;
     expect_rows(rt.alloc(), &identity_emptied())?;
-    expect_rows(rt.alloc(), &identity_named())
+    expect_rows(rt.alloc(), &identity_named())?;
+    expect_rows(rt.alloc(), &identity_unnamed())
 }
 
 #[test]

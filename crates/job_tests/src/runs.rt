@@ -3,7 +3,7 @@
 //! - A `Row` is a run: its words and input, and what is wanted of it. `dumps`, `conversions`, `buildings`,
 //!   `modifications`, `dictionaries`, `signs`, `unknown`, `text_sets`, `text_extensions`, `text_terms`, `text_cuts`,
 //!   `named_elements`, `identities`, `identity_days`, `identity_emptied`, `identity_heads`, `identity_put`,
-//!   `identity_moved`, `identity_named` and `identity_faults` are tables of rows.
+//!   `identity_moved`, `identity_named`, `identity_unnamed` and `identity_faults` are tables of rows.
 //! - `expect_rows` expects the answers of rows. `expect_runs` expects one, in pieces of several sizes.
 //! - `over_memory` and `over_std` are runs of words over one input, and `expect_answer` compares an `Answer` with what
 //!   is `Wanted`.
@@ -34,6 +34,7 @@ pub use tables::identity_heads::identity_heads;
 pub use tables::identity_moved::identity_moved;
 pub use tables::identity_named::identity_named;
 pub use tables::identity_put::identity_put;
+pub use tables::identity_unnamed::identity_unnamed;
 pub use tables::modifications::modifications;
 pub use tables::named_elements::named_elements;
 pub use tables::signs::signs;

@@ -7,6 +7,7 @@ use Rattle.dcm_stream.specs.Reading.{start_of}
 use Rattle.dcm_sinks.specs.EncodeSink.{EncodeState}
 use Rattle.dcm_deid.specs.declared.fate.Options.{Options}
 use Rattle.dcm_deid.specs.DeidentifySink.{State as DeidentifyState}
+use Rattle.dcm_deid.specs.Patient.{PatientState}
 use Rattle.dcm_words.specs.Words.{Job, deidentify}
 use Rattle.dcm_cli.specs.declared.ending.Ending.{Ending}
 use Rattle.dcm_cli.specs.declared.rewrite.Opened.{Opened as OpenedFile}
@@ -26,16 +27,16 @@ module _ (options : Options) (reports : Bool) (key read rest : List ℕ) (how : 
   deidentify_not_opened = not_opened None (without_identity options key) job refl (λ coding. refl) (file_deidentifier options key reports) (λ coding m. refl) read rest how ok held
 
   module _ (mid : Option (List ℕ)) (buffer : List ℕ) (x : OpenedFile) (h : OpenedAs Standard None (without_identity options key) read how held mid buffer x) (more later : List ℕ) (split : rest ≡ more ++ later) where
-    pub deidentify_worked : (last : DeidentifyState) (t : EncodeState) (holds : Option (List ℕ)) (passed : Ending)
+    pub deidentify_worked : (whom : Option PatientState) (last : DeidentifyState) (t : EncodeState) (holds : Option (List ℕ)) (passed : Ending)
         → (x.beginning.is_over ≡ true → WasRead passed)
-        → Ends (deidentifier options key x.coding.syntax).bars (deidentifier options key x.coding.syntax).step (deidentifier options key x.coding.syntax).writes (start_of x.coding.syntax x.start) (deidentifier options key x.coding.syntax).first mid (Some later) (last, t) holds (set_bytes x.beginning buffer ++ more) passed
+        → Ends (deidentifier options key x.coding.syntax).bars (deidentifier options key x.coding.syntax).step (deidentifier options key x.coding.syntax).writes (start_of x.coding.syntax x.start) (deidentifier options key x.coding.syntax).first mid (Some later) (whom, (last, t)) holds (set_bytes x.beginning buffer ++ more) passed
         → Worked job (read ++ rest) (Some later) held holds (with_pixels passed (reports && last.place.seen.may_show))
-    deidentify_worked last t holds passed was ends =
+    deidentify_worked whom last t holds passed was ends =
         let o = opened_here None (without_identity options key) job refl (λ coding. refl) (file_deidentifier options key reports) (λ coding m. refl) read rest how ok held mid buffer x h in
         let keeps = keeps_here None (without_identity options key) job refl (λ coding. refl) (file_deidentifier options key reports) (λ coding m. refl) read rest how ok held mid buffer x h in
         opened_worked None (without_identity options key) job refl (λ coding. refl) (file_deidentifier options key reports) (λ coding m. refl) read rest how ok held mid buffer x h more later split
-        (last, t) holds passed (with_pixels passed (reports && last.place.seen.may_show))
-        (concludes_pixels job refl (read ++ rest) (Some later) held h.reading o keeps (file_deidentifier options key reports x.coding) (last, t) passed (reports && last.place.seen.may_show)
+        (whom, (last, t)) holds passed (with_pixels passed (reports && last.place.seen.may_show))
+        (concludes_pixels job refl (read ++ rest) (Some later) held h.reading o keeps (file_deidentifier options key reports x.coding) (whom, (last, t)) passed (reports && last.place.seen.may_show)
         (λ f reads is. ap (λ (shows : Bool). pixels_verdict (reports && shows))
-        (sym (last_shows options key x.coding.syntax x.coding.syntax (132 + length o.group) (small job refl (read ++ rest) (Some later) held h.reading o) _ f (last, t) reads is))))
+        (sym (last_shows options key x.coding.syntax x.coding.syntax (132 + length o.group) (small job refl (read ++ rest) (Some later) held h.reading o) _ f (whom, (last, t)) reads is))))
         was ends

@@ -1,7 +1,7 @@
 -- What is read of an input, written without identity.
-use Rattle.std.proofs.Common.{◌≡◌, ◌∙◌, ap, sym, refl, subst, ℕ, ◌≤◌, ◌+◌, ◌-◌, List, ◌++◌, length, take, Option, Bool, true, false, arith, length-append}
+use Rattle.std.proofs.Common.{◌≡◌, ◌∙◌, ap, sym, refl, subst, ℕ, ◌≤◌, ◌+◌, ◌-◌, List, length, take, Option, Bool, true, false, arith, length-append}
 use Rattle.std.proofs.lemmas.List.{length-take}
-use Rattle.std.specs.Prelude.{fold}
+use Rattle.std.specs.Prelude.{fold, ◌&&◌}
 use Rattle.dcm_base.specs.declared.syntax.Syntax.{Syntax}
 use Rattle.dcm_base.specs.declared.tag.Tag.{Tag}
 use Rattle.dcm_base.specs.Bytes.Spelling.{SpellsFront}
@@ -12,7 +12,7 @@ use Rattle.dcm_base.specs.Reading.Stop.{Stop, complete, refused}
 use Rattle.dcm_base.specs.Steps.Anew.{reached_anew}
 use Rattle.dcm_base.specs.Steps.Atoms.{Atom, Shows, front_atoms, is_closed}
 use Rattle.dcm_base.specs.Steps.Steps.{outputs}
-use Rattle.dcm_base.specs.Tree.Front.{Front, front, OpenTree, nothing_open, open_leaf, open_sequence, open_fragments}
+use Rattle.dcm_base.specs.Tree.Front.{Front, front, OpenTree}
 use Rattle.dcm_base.specs.Tree.Tree.{Trees}
 use Rattle.dcm_sinks.specs.EncodeSink.{encode_start, encode_step, encode_writes}
 use Rattle.dcm_sinks.specs.Laws.{StaysShallow}
@@ -24,7 +24,7 @@ use Rattle.dcm_editor.proofs.Trees.DepthAtoms.{front_shallow, front_stays, anew_
 use Rattle.dcm_deid.specs.MadeNew.{made_new}
 use Rattle.dcm_deid.specs.declared.fate.Options.{Options}
 use Rattle.dcm_deid.specs.declared.fate.Depth.TheVariants.{Outermost}
-use Rattle.dcm_deid.specs.DeidentifySink.{MOST_COUNTED, State, begun, next, passed}
+use Rattle.dcm_deid.specs.DeidentifySink.{MOST_COUNTED, begun, next, passed}
 use Rattle.dcm_deid.specs.Deidentify.{Renaming}
 use Rattle.dcm_deid.specs.Emptied.{dates_emptied}
 use Rattle.dcm_deid.specs.Fate.{fate_as}
@@ -34,7 +34,14 @@ use Rattle.dcm_deid.proofs.DatesTold.{date_steps}
 use Rattle.dcm_deid.proofs.EmptiedBytes.{front_holds}
 use Rattle.dcm_deid.proofs.PixelsTold.{pixel_steps}
 use Rattle.dcm_deid.proofs.Shallow.{deidentified_shallow}
+use Rattle.dcm_sinks.proofs.ReadBack.IsRead.{not_closed}
+use Rattle.dcm_deid.specs.Unnamed.{names_nobody}
+use Rattle.dcm_deid.specs.WithPatient.{is_unnamed, noted, noting}
+use Rattle.dcm_deid.proofs.NotedPatient.{unnamed_steps}
+use Rattle.dcm_cli.specs.declared.ending.Ending.TheVariants.{Worked}
 use Rattle.dcm_cli.specs.Answer.{shows_identity}
+use Rattle.dcm_cli.specs.DeidentifyPass.{ends_whole}
+use Rattle.dcm_cli.specs.Run.{verdict_of_stop}
 
 pub deidentify_encodes : (target : Syntax) (options : Options) (key : List ℕ) (s : Syntax) (f : Front) → Shown s f
     → outputs encode_step encode_writes (encode_start target) (outputs next passed (begun options key) (front_atoms s f)) ≡ recode target (deidentified options (made_new options key) f)
@@ -107,9 +114,28 @@ dates_known options key s start bytes f stop le reads =
     date_steps options key f (front_atoms s f) r.shallow r.shows (few_dates options (made_new options key) s start bytes f stop reads)
 
 pub dates_so_far : (options : Options) (key : List ℕ) (s : Syntax) (start : ℕ) (bytes : List ℕ) (f : Front) (stop : Stop) → start ≤ INPUT_LIMIT → is_closed f ≡ false → Reads identity_bar s start bytes (ended stop f) stop
-    → (fold next (begun options key) (front_atoms s f)).place.seen.emptied ≡ dates_emptied options (made_new options key) (ended stop f)
+    → (fold next (begun options key) (front_atoms s f)).place.seen.emptied ≡ dates_emptied options (made_new options key) f
 dates_so_far options key s start bytes f stop le open_end reads =
     let r = shown_so_far identity identity_bar identity_in_order s start bytes f stop le open_end reads in
     let same = emptied_ended stop options (made_new options key) f in
     let few = few_dates options (made_new options key) s start bytes (ended stop f) stop reads in
-    date_steps options key f (front_atoms s f) r.shallow r.shows (subst (λ (n : ℕ). n ≤ MOST_COUNTED) same few) ∙ sym same
+    date_steps options key f (front_atoms s f) r.shallow r.shows (subst (λ (n : ℕ). n ≤ MOST_COUNTED) same few)
+
+-- ---- whether PatientID names nobody
+
+-- the data set is closed where all was read without fault
+pub closed_so : (s : Syntax) (start : ℕ) (bytes : List ℕ) (f : Front) (stop : Stop) → Reads identity_bar s start bytes f stop → ends_whole (Worked (verdict_of_stop stop)) ≡ is_closed f
+closed_so s start bytes f complete (reached, why, first, said, is) = sym (ap is_closed is ∙ closed_at_end reached)
+closed_so s start bytes f (refused fault offset) (reached, why, first, said, is) = sym (ap is_closed is ∙ not_closed s reached first.read first.spelled)
+
+pub unnamed_known : (asked : Bool) (s : Syntax) (start : ℕ) (bytes : List ℕ) (f : Front) (stop : Stop) → start ≤ INPUT_LIMIT → Reads identity_bar s start bytes f stop
+    → is_unnamed (fold noted (noting asked) (front_atoms s f)) (is_closed f) ≡ (asked && names_nobody f)
+unnamed_known asked s start bytes f stop le reads =
+    let r = shown_whole identity identity_bar identity_in_order s start bytes f stop le reads in
+    unnamed_steps asked f (front_atoms s f) r.shallow r.shows
+
+pub unnamed_so_far : (asked : Bool) (s : Syntax) (start : ℕ) (bytes : List ℕ) (f : Front) (stop : Stop) → start ≤ INPUT_LIMIT → is_closed f ≡ false → Reads identity_bar s start bytes (ended stop f) stop
+    → is_unnamed (fold noted (noting asked) (front_atoms s f)) false ≡ (asked && names_nobody f)
+unnamed_so_far asked s start bytes f stop le open_end reads =
+    let r = shown_so_far identity identity_bar identity_in_order s start bytes f stop le open_end reads in
+    ap (is_unnamed (fold noted (noting asked) (front_atoms s f))) (sym open_end) ∙ unnamed_steps asked f (front_atoms s f) r.shallow r.shows

@@ -1,5 +1,5 @@
 -- Whom a data set names, as far as it was read.
-use Rattle.std.proofs.Common.{◌≡◌, ◌≢◌, ◌∙◌, ap, sym, refl, subst, ℕ, suc, ◌*◌, ◌≤◌, List, [], ◌∷◌, ◌++◌, length, Bool, true, false, arith, Option, Some, None, if◌then◌else◌}
+use Rattle.std.proofs.Common.{◌≡◌, ◌≢◌, ◌∙◌, ap, sym, refl, subst, ℕ, List, ◌∷◌, ◌++◌, length, Bool, true, false, arith, Some, if◌then◌else◌}
 use Rattle.std.specs.Prelude.{fold, map, ◌&&◌}
 use Rattle.std.proofs.lemmas.List.Sums.{fold-append}
 use Rattle.dcm_lemmas.proofs.Truth.{and_false}
@@ -12,11 +12,11 @@ use Rattle.dcm_base.specs.declared.vr.Vr.{Vr}
 use Rattle.dcm_base.specs.declared.vr.Vr.TheVariants.{LO}
 use Rattle.dcm_base.specs.Bytes.Spelling.{SpellsFront, after_trees}
 use Rattle.dcm_base.specs.Reading.Bars.{PATIENT_ID}
-use Rattle.dcm_base.specs.Steps.Atoms.{Atom, value_byte, closes_leaf, opens_item, closes_sequence, end_atoms, fragments_then, front_atoms, open_atoms, open_fragment_atoms, ShowTrees, Shows, ShowsOpen, ShowsOpenItem}
+use Rattle.dcm_base.specs.Steps.Atoms.{Atom, value_byte, closes_leaf, closes_sequence, end_atoms, fragments_then, front_atoms, open_atoms, open_fragment_atoms, ShowTrees, Shows, ShowsOpen}
 use Rattle.dcm_base.specs.Tables.Syntax.{Little}
 use Rattle.dcm_base.specs.Tables.Tag.{below, same_tag}
 use Rattle.dcm_base.specs.Tables.Transfer.{without_pads}
-use Rattle.dcm_base.specs.Tree.Front.{Front, front, OpenTree, nothing_open, open_leaf, open_sequence, open_fragments, OpenItem, no_open_item, open_item}
+use Rattle.dcm_base.specs.Tree.Front.{Front, front, OpenTree, nothing_open, open_leaf, open_sequence, open_fragments}
 use Rattle.dcm_base.specs.Tree.Tree.{Trees, no_tree, leaf, sequence, fragments, Items}
 use Rattle.dcm_base.specs.Tree.Value.{order}
 use Rattle.dcm_base.proofs.DataSets.Shown.{open_shown, trees_shown}
@@ -28,73 +28,14 @@ use Rattle.dcm_deid.specs.declared.fate.Fate.TheVariants.{Keep}
 use Rattle.dcm_deid.specs.declared.patient.Naming.{Naming}
 use Rattle.dcm_deid.specs.declared.patient.Naming.TheVariants.{NotYet, Opened, Ended, Nobody}
 use Rattle.dcm_deid.specs.DeidentifySink.{Held, held_with, nothing_held}
-use Rattle.dcm_deid.specs.Patient.{PatientState, looks_at, names_patient, naming_at, patient_held, patient_next}
+use Rattle.dcm_deid.specs.Patient.{PatientState, names_patient, naming_at, patient_held, patient_next}
 use Rattle.dcm_deid.specs.Saying.{whole_of}
 use Rattle.dcm_deid.specs.Uids.{unpadded}
 use Rattle.dcm_deid.proofs.PatientSteps.{bytes_held}
 use Rattle.dcm_cli.specs.First.{patient_of}
 use Rattle.dcm_run_laws.specs.FirstLaws.{patient_in}
-use Rattle.dcm_run_laws.proofs.Patient.Atoms.{NotOpen, at, bytes_pass, fragments_pass, head_told, into, is_nobody, is_not_yet, is_opened, items_pass, named, not_held, opened_is, same_with, trees_pass, value_names}
-
--- ---- what is open changes nothing
-
-end_stays : (b : Bool) (p : PatientState) → fold patient_next p (end_atoms b) ≡ p
-end_stays false p = refl
-end_stays true p = refl
-
-module _ (n : Naming) (h : Held) (closed_one : NotOpen n) where
-  -- a state after some atoms, which differs from one before in how much is open alone
-  abbrev Stays : PatientState → Type 0
-  Stays p = (k : ℕ) × (p ≡ at k n h)
-
-  then_stays : (p q : PatientState) → p ≡ q → Stays q → Stays p
-  then_stays p q e (k, is) = (k, e ∙ is)
-
-  value_stays : (d : ℕ) (v : List ℕ) → Stays (fold patient_next (at d n h) (map value_byte v))
-  value_stays d v = (d, bytes_held v d n h ∙ ap (at d n) (not_held n h v closed_one))
-
-  fragment_stays : (d : ℕ) (last : Option (ℕ × List ℕ)) → d ≤ 200 → Stays (fold patient_next (at d n h) (open_fragment_atoms last))
-  fragment_stays d None few = (d, refl)
-  fragment_stays d (Some f) few = then_stays _ _ (ap (λ (k : ℕ). fold patient_next (at k n h) (map value_byte f.1)) (opened_is d few)) (value_stays (suc d) f.1)
-
-  mutual
-    unfolding Shows
-
-    front_stays : (f : Front) (lists d : ℕ) (atoms : List Atom) → Shows f atoms → StaysShallow lists atoms → d ≤ 2 * lists → looks_at d n ≡ false → Stays (fold patient_next (at d n h) atoms)
-    front_stays (front whole o reached closed) lists d atoms w k le looks =
-        then_stays _ _ (trees_pass n h closed_one whole lists d atoms w.0 w.1 k le looks)
-        (open_stays o lists d closed w.0 w.2 (stays_trees lists whole atoms w.0 w.1 k) le looks)
-
-    open_stays : (o : OpenTree) (lists d : ℕ) (b : Bool) (atoms : List Atom) → ShowsOpen o (end_atoms b) atoms → StaysShallow lists atoms → d ≤ 2 * lists → looks_at d n ≡ false → Stays (fold patient_next (at d n h) atoms)
-    open_stays nothing_open lists d b atoms w k le looks = (d, ap (fold patient_next (at d n h)) w ∙ end_stays b (at d n h))
-    open_stays (open_leaf tag vr size v) lists d b atoms w k le looks =
-        let few : lists ≤ 64 = k [] atoms refl in
-        let u : List ℕ = order w.0 vr v in
-        then_stays _ _ (ap (fold patient_next (at d n h)) w.3 ∙ into n h closed_one d tag vr (Known size) w.0 (map value_byte u) (omega (arith, few, le)) looks) (value_stays (suc d) u)
-    open_stays (open_sequence tag vr declared items last) lists d b atoms w k le looks =
-        let few : lists ≤ 64 = k [] atoms refl in
-        let inner : StaysShallow (suc lists) w.1 = stays_opened lists a_sequence tag vr declared w.0 w.1 w.3 (stays_same lists atoms _ w.4 k) in
-        then_stays _ _
-        (ap (fold patient_next (at d n h)) w.4
-        ∙ into n h closed_one d tag vr declared w.0 w.1 (omega (arith, few, le)) looks
-        ∙ items_pass n h closed_one items lists d w.1 w.2 w.5 inner le)
-        (item_stays last lists d w.2 w.6 (stays_items (suc lists) items w.1 w.2 w.5 inner) le)
-    open_stays (open_fragments tag vr values last) lists d b atoms w k le looks =
-        let few : lists ≤ 64 = k [] atoms refl in
-        then_stays _ _
-        (ap (fold patient_next (at d n h)) w.3
-        ∙ into n h closed_one d tag vr Undefined w.0 (fragments_then values (open_fragment_atoms last)) (omega (arith, few, le)) looks
-        ∙ fragments_pass n h closed_one (suc d) values (open_fragment_atoms last) (omega (arith, few, le)))
-        (fragment_stays (suc d) last (omega (arith, few, le)))
-
-    item_stays : (last : OpenItem) (lists d : ℕ) (atoms : List Atom) → ShowsOpenItem last atoms → StaysShallow (suc lists) atoms → d ≤ 2 * lists → Stays (fold patient_next (at (suc d) n h) atoms)
-    item_stays no_open_item lists d atoms w k le = (suc d, ap (fold patient_next (at (suc d) n h)) w)
-    item_stays (open_item declared set) lists d atoms w k le =
-        let few : suc lists ≤ 64 = k [] atoms refl in
-        let inner : StaysShallow (suc lists) w.0 = stays_on (suc lists) (opens_item declared) w.0 (stays_same (suc lists) atoms _ w.1 k) in
-        then_stays _ _
-        (ap (fold patient_next (at (suc d) n h)) w.1 ∙ ap (λ (j : ℕ). fold patient_next (at j n h) w.0) (opened_is (suc d) (omega (arith, few, le))))
-        (front_stays set (suc lists) (suc (suc d)) w.0 w.3 inner (omega (arith, le)) refl)
+use Rattle.dcm_deid.proofs.PatientAtoms.{NotOpen, at, bytes_pass, fragments_pass, head_told, is_nobody, is_not_yet, is_opened, items_pass, named, same_with, trees_pass, value_names}
+use Rattle.dcm_deid.proofs.PatientOpen.{Stays, end_stays, fragment_stays, item_stays, open_stays}
 
 -- ---- what is open does not end the naming
 

@@ -38,7 +38,7 @@ use Rattle.dcm_cli.specs.First.{FirstReads, of_set, fault_at, first_end, naming_
 use Rattle.dcm_cli.proofs.Passes.DeidentifyReads.{IsWhole, read_is_whole}
 use Rattle.dcm_cli.proofs.Runs.OneFirst.{one_first}
 use Rattle.dcm_run_laws.specs.FirstLaws.{FirstReadingDecides, patient_in, place_of}
-use Rattle.dcm_run_laws.proofs.Patient.Atoms.{Tells, told}
+use Rattle.dcm_deid.proofs.PatientAtoms.{Tells, told}
 use Rattle.dcm_run_laws.proofs.Patient.UpTo.{nobody_reached}
 use Rattle.dcm_run_laws.proofs.ReadBack.ReadsAgain.{begins_within}
 

@@ -31,10 +31,19 @@ use Rattle.dcm_deid.specs.MadeNew.{made_new}
 use Rattle.dcm_deid.specs.Saying.{deidentified, said, whole_of}
 use Rattle.dcm_deid.proofs.Trees.Again.{nothing_flows}
 use Rattle.dcm_deid.proofs.Trees.Vanished.{by_left}
+use Rattle.dcm_deid.proofs.Trees.Unnamed.{same_unnamed}
+use Rattle.dcm_deid.specs.Unnamed.{names_nobody}
+use Rattle.dcm_base.specs.Lines.Ascending.{FrontAscends}
+use Rattle.dcm_base.specs.Reading.Bars.{identity_bar}
+use Rattle.dcm_base.specs.Reading.Stop.{complete}
+use Rattle.dcm_editor.proofs.ReadBack.EditReads.{shown_whole}
+use Rattle.dcm_editor.proofs.ReadBack.IdentityBar.{identity, identity_in_order}
+use Rattle.dcm_cli.specs.declared.ending.Remarks.{Remarks}
+use Rattle.dcm_cli.specs.Remarks.{remark_lines, remarks_at}
 use Rattle.dcm_deid.proofs.Trees.Said.{nothing_flows_out, of_whole, same_said, set_with_all}
 use Rattle.dcm_words.specs.Words.{Job, deidentify}
 use Rattle.dcm_cli.specs.Answer.{Answer, answer, shows_identity, status_of_lines}
-use Rattle.dcm_cli.specs.ErrorLines.{emptied_lines, pixels_line}
+use Rattle.dcm_cli.specs.ErrorLines.{pixels_line}
 use Rattle.dcm_run_laws.specs.Flows.{NothingFlows, leaves, meta_left, value_left}
 use Rattle.dcm_cli.proofs.Passes.DeidentifyReads.{IsWhole, read_is_whole}
 use Rattle.dcm_run_laws.proofs.ReadBack.ReadsAgain.{begins_within, read_of}
@@ -97,7 +106,7 @@ module _ (options : Options) where
 
 -- ---- the data set
 
-module _ (options : Options) (key : List ℕ) (d e : ℤ) (f g : Front) (v : IsWhole f) (w : IsWhole g) (alike : Alike options Outermost d e (whole_of f) (whole_of g)) where
+module _ (options : Options) (key : List ℕ) (d e : ℤ) (f g : Front) (v : IsWhole f) (w : IsWhole g) (rises : FrontAscends f) (ascends : FrontAscends g) (alike : Alike options Outermost d e (whole_of f) (whole_of g)) where
   abbrev one : Options
   one = moving options d
 
@@ -135,12 +144,19 @@ module _ (options : Options) (key : List ℕ) (d e : ℤ) (f g : Front) (v : IsW
   pub emptied_alike : dates_emptied one (made_new one key) f ≡ dates_emptied two (made_new two key) g
   emptied_alike = set_emptied one f v ∙ sets_alike.same_vanished ∙ sym (set_emptied two g w)
 
+  -- and PatientID of both names nobody, or of neither
+  pub unnamed_alike : (options.pseudonyms && names_nobody f) ≡ (options.pseudonyms && names_nobody g)
+  unnamed_alike =
+      ap (λ (x : Front). options.pseudonyms && names_nobody x) v.is
+      ∙ same_unnamed options d e v.reached w.reached None None v.set w.set options.pseudonyms refl (subst FrontAscends v.is rises).0 (subst FrontAscends w.is ascends).0 sets_alike
+      ∙ sym (ap (λ (x : Front). options.pseudonyms && names_nobody x) w.is)
+
 -- ---- the answer
 
-abbrev answer_of : (emptied : ℕ) (shows : Bool) → List ℕ → Answer
-answer_of emptied shows output = record {
+abbrev answer_of : Remarks → (shows : Bool) → List ℕ → Answer
+answer_of remarks shows output = record {
   output = output;
-  lines = emptied_lines emptied ++ (if shows then pixels_line else []);
+  lines = remark_lines remarks ++ (if shows then pixels_line else []);
   status = status_of_lines (if shows then pixels_line else []);
 }
 
@@ -154,6 +170,8 @@ nothing_flows_in_answers options reports key first second d e a b m n f g h k le
     let s = read_of other second n k.coding g k.answers.source k.source_is k.answers.reads in
     let v = read_is_whole h.coding.syntax _ _ f (begins_within first m r.group r.head.named r.head.head) r.set in
     let w = read_is_whole k.coding.syntax _ _ g (begins_within second n s.group s.head.named s.head.head) s.set in
+    let rises = (shown_whole identity identity_bar identity_in_order h.coding.syntax _ _ f complete (begins_within first m r.group r.head.named r.head.head) r.set).ascends in
+    let ascends = (shown_whole identity identity_bar identity_in_order k.coding.syntax _ _ g complete (begins_within second n s.group s.head.named s.head.head) s.set).ascends in
     let x = headed first m r.group r.head.named r.head.head in
     let y = headed second n s.group s.head.named s.head.head in
     let values : syntax_value m.elements ≡ syntax_value n.elements = syntax_alike options m n left in
@@ -168,11 +186,18 @@ nothing_flows_in_answers options reports key first second d e a b m n f g h k le
     ap (λ (t : Trees). header t m.uid ++ recode h.coding.syntax (deidentified one (made_new one key) f)) groups
     ∙ ap (λ (u : List ℕ). header (renewed (meta_renewing options key) implementation n.elements) u ++ recode h.coding.syntax (deidentified one (made_new one key) f)) uids
     ∙ ap (λ (c : Coding). header (renewed (meta_renewing options key) implementation n.elements) n.uid ++ recode c.syntax (deidentified one (made_new one key) f)) codings
-    ∙ ap (λ (bs : List ℕ). header (renewed (meta_renewing options key) implementation n.elements) n.uid ++ bs) (bytes_alike options key d e f g v w alike k.coding.syntax)
+    ∙ ap (λ (bs : List ℕ). header (renewed (meta_renewing options key) implementation n.elements) n.uid ++ bs) (bytes_alike options key d e f g v w rises ascends alike k.coding.syntax)
     in
-    let shows : (reports && shows_identity one key f) ≡ (reports && shows_identity two key g) = ap (λ (b : Bool). reports && b) (shows_alike options key d e f g v w alike) in
+    let shows : (reports && shows_identity one key f) ≡ (reports && shows_identity two key g) = ap (λ (b : Bool). reports && b) (shows_alike options key d e f g v w rises ascends alike) in
+    let header_of : List ℕ → List ℕ = λ bs. header (renewed (meta_renewing options key) implementation n.elements) n.uid ++ bs in
+    let remarks : Remarks = remarks_at job f in
+    let also : Remarks = remarks_at other g in
+    let same_remarks : remarks ≡ also =
+    ap (λ (unnamed : Bool). record { unnamed = unnamed; emptied = dates_emptied one (made_new one key) f }) (unnamed_alike options key d e f g v w rises ascends alike)
+    ∙ ap (λ (count : ℕ). record { unnamed = options.pseudonyms && names_nobody g; emptied = count }) (emptied_alike options key d e f g v w rises ascends alike)
+    in
     h.answers.answer_is ∙ ap (answer job) h.source_is
-    ∙ ap (λ (bs : List ℕ). answer_of (dates_emptied one (made_new one key) f) (reports && shows_identity one key f) bs) outputs
-    ∙ ap (λ (b : Bool). answer_of (dates_emptied one (made_new one key) f) b (header (renewed (meta_renewing options key) implementation n.elements) n.uid ++ recode k.coding.syntax (deidentified two (made_new two key) g))) shows
-    ∙ ap (λ (count : ℕ). answer_of count (reports && shows_identity two key g) (header (renewed (meta_renewing options key) implementation n.elements) n.uid ++ recode k.coding.syntax (deidentified two (made_new two key) g))) (emptied_alike options key d e f g v w alike)
+    ∙ ap (answer_of remarks (reports && shows_identity one key f)) outputs
+    ∙ ap (λ (b : Bool). answer_of remarks b (header_of (recode k.coding.syntax (deidentified two (made_new two key) g)))) shows
+    ∙ ap (λ (r : Remarks). answer_of r (reports && shows_identity two key g) (header_of (recode k.coding.syntax (deidentified two (made_new two key) g)))) same_remarks
     ∙ sym (k.answers.answer_is ∙ ap (answer other) k.source_is)

@@ -11,6 +11,7 @@ pub mod identity_heads;
 pub mod identity_moved;
 pub mod identity_named;
 pub mod identity_put;
+pub mod identity_unnamed;
 pub mod modifications;
 pub mod named_elements;
 pub mod signs;

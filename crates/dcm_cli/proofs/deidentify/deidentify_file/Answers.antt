@@ -5,6 +5,7 @@ use Rattle.dcm_words.specs.Words.{Job, deidentify}
 use Rattle.dcm_stream.specs.Reading.{start_of}
 use Rattle.dcm_deid.specs.DeidentifySink.{begun}
 use Rattle.dcm_deid.specs.Through.{through_step, through_writes, through_bar}
+use Rattle.dcm_deid.specs.WithPatient.{noting, noting_bar, noting_step, noting_writes}
 use Rattle.dcm_sinks.specs.EncodeSink.{EncodeState, encode_step, encode_writes, encode_start}
 use Rattle.dcm_sinks.specs.Encoder.{state as encoder_state}
 use Rattle.dcm_cli.specs.declared.ending.Ended.{Ended}
@@ -63,13 +64,13 @@ returns g c =
     let pass = c.read_deidentified.ensures.passes in
     let ended = c.read_deidentified.result in
     let shows : Bool = what.reports && pass.last.place.seen.may_show in
-    let Passed : EncodeState → Option (List ℕ) → Type 0 = λ s known. spec.ReadsSet through_bar (through_step encode_step) (through_writes encode_step encode_writes) reader c.open_file.new.input c.read_deidentified.new.input opened.beginning.is_over (spec.set_bytes opened.beginning buffer)
-    (start_of opened.coding.syntax opened.start) (begun what.options what.key.items, s) known (pass.last, last) holds pass.passed
+    let Passed : EncodeState → Option (List ℕ) → Type 0 = λ s known. spec.ReadsSet (noting_bar through_bar) (noting_step (through_step encode_step)) (noting_writes (through_writes encode_step encode_writes)) reader c.open_file.new.input c.read_deidentified.new.input opened.beginning.is_over (spec.set_bytes opened.beginning buffer)
+    (start_of opened.coding.syntax opened.start) (noting what.options.pseudonyms, (begun what.options what.key.items, s)) known (pass.whom, (pass.last, last)) holds pass.passed
     in
     let set = subst (λ known. Passed (encode_start opened.coding.syntax) known) (ap (λ (x : g.row.W.Denot). g.W.DeviceOut.contents x) c.new-sink.ensures.out)
     (subst (λ s. Passed s (g.W.DeviceOut.contents c.new-sink.result.out.now)) c.new-sink.ensures.state pass.ends)
     in
-    let Going : List ℕ → Type 0 = spec.SetGoesOn through_bar (through_step encode_step) opened.beginning.is_over (spec.set_bytes opened.beginning buffer) (start_of opened.coding.syntax opened.start) (begun what.options what.key.items, encode_start opened.coding.syntax) in
+    let Going : List ℕ → Type 0 = spec.SetGoesOn (noting_bar through_bar) (noting_step (through_step encode_step)) opened.beginning.is_over (spec.set_bytes opened.beginning buffer) (start_of opened.coding.syntax opened.start) (noting what.options.pseudonyms, (begun what.options what.key.items, encode_start opened.coding.syntax)) in
     let j = joined reader spec.HeadGoesOn Going (IsUndecided job) c.args.input.now c.open_file.new.input c.read_deidentified.new.input x.read set.more x.how set.how x.reads set.reads (head_undecided job refl)
     (λ more is going. opened_undecided None change job refl maker x.read more x.how (allows_any x.how is (more ++ [])) held mid buffer opened x.opens refl going.0 going.1)
     (λ more going. began_gave reader c.args.input.now c.open_file.new.input x.opens.reading opened.beginning buffer x.read x.how x.opens.head.begins x.reads going.0)
@@ -77,14 +78,14 @@ returns g c =
     let worked : (rest : List ℕ) → Allows j.how rest → Worked job ((x.read ++ set.more) ++ rest) (Some rest) held holds ended.ending = λ rest ok.
     let a = j.allows rest ok in
     let f = subst (λ (ending : Ending). Worked job (x.read ++ (set.more ++ rest)) (Some rest) held holds ending) (sym pass.ending_is)
-    (deidentify_worked what.options what.reports what.key.items x.read (set.more ++ rest) x.how a.0 held mid buffer opened x.opens set.more rest refl pass.last last holds pass.passed pass.was
+    (deidentify_worked what.options what.reports what.key.items x.read (set.more ++ rest) x.how a.0 held mid buffer opened x.opens set.more rest refl pass.whom pass.last last holds pass.passed pass.was
     (set.ends rest a.1 (λ over. ends_empty set.more rest (nothing_follows x.how (set.more ++ rest) a.0 (x.opens.head.begins.over over)))))
     in
     subst (λ (bytes : List ℕ). Worked job bytes (Some rest) held holds ended.ending) (sym (append_assoc x.read set.more rest)) f
     in
     let k = c.read_deidentified.ensures.kept in
     let n = c.new-sink.ensures.same_reference in
-    let ends_at : (rest : List ℕ) → Allows j.how rest → spec.Ends through_bar (through_step encode_step) (through_writes encode_step encode_writes) (start_of opened.coding.syntax opened.start) (begun what.options what.key.items, encode_start opened.coding.syntax) mid (Some rest) (pass.last, last) holds (spec.set_bytes opened.beginning buffer ++ set.more) pass.passed = λ rest ok.
+    let ends_at : (rest : List ℕ) → Allows j.how rest → spec.Ends (noting_bar through_bar) (noting_step (through_step encode_step)) (noting_writes (through_writes encode_step encode_writes)) (start_of opened.coding.syntax opened.start) (noting what.options.pseudonyms, (begun what.options what.key.items, encode_start opened.coding.syntax)) mid (Some rest) (pass.whom, (pass.last, last)) holds (spec.set_bytes opened.beginning buffer ++ set.more) pass.passed = λ rest ok.
     set.ends rest (j.allows rest ok).1 (λ over. ends_empty set.more rest (nothing_follows x.how (set.more ++ rest) (j.allows rest ok).0 (x.opens.head.begins.over over)))
     in
     record {
@@ -95,11 +96,11 @@ returns g c =
         worked = λ rest ok.
             subst (λ (known : Option (List ℕ)). Worked job ((x.read ++ set.more) ++ rest) (Some rest) held known ended.ending) (search (rules, k, n)) (worked rest ok);
         decided = decided_by job (x.read ++ set.more) j.how ended.ending held holds (worked [] (allows_nothing j.how)) (λ one.
-            set_decided job refl opened.coding refl (maker opened.coding) x.read set.more x.how j.how buffer x.opens.reading opened.beginning opened.start x.opens.head (λ rest ok. (j.allows rest ok).0) mid (pass.last, last) holds pass.passed ended.ending (λ y no is. pass.ending_is ∙ ap (λ (e : Ending). spec.with_pixels e shows) is ∙ still_without_pixels y shows no) one
+            set_decided job refl opened.coding refl (maker opened.coding) x.read set.more x.how j.how buffer x.opens.reading opened.beginning opened.start x.opens.head (λ rest ok. (j.allows rest ok).0) mid (pass.whom, (pass.last, last)) holds pass.passed ended.ending (λ y no is. pass.ending_is ∙ ap (λ (e : Ending). spec.with_pixels e shows) is ∙ still_without_pixels y shows no) one
             (set.ends (0 ∷ []) (j.allows (0 ∷ []) one).1 (λ over. ends_empty set.more (0 ∷ []) (nothing_follows x.how (set.more ++ 0 ∷ []) (j.allows (0 ∷ []) one).0 (x.opens.head.begins.over over)))));
         unread = search rules;
         failed = search rules;
       };
       remarked = subst (λ (e : Ending). RemarkedAs job (x.read ++ set.more) j.how e ended.remarks) (sym pass.ending_is)
-          (set_remarked what.options what.reports what.key.items opened.coding x.read set.more x.how j.how buffer x.opens.reading opened.beginning opened.start x.opens.head (λ rest ok. (j.allows rest ok).0) (pass.last, last) ended.remarks pass.remarks_are mid holds shows pass.passed pass.was ends_at);
+          (set_remarked what.options what.reports what.key.items opened.coding x.read set.more x.how j.how buffer x.opens.reading opened.beginning opened.start x.opens.head (λ rest ok. (j.allows rest ok).0) (pass.whom, (pass.last, last)) ended.remarks mid holds shows pass.passed pass.remarks_are pass.was ends_at);
     }

@@ -1,6 +1,6 @@
 // Runs that take identity out over devices that fail.
 use super::{reads_fail, tells_fail, writes_fail};
-use crate::runs::{identity_emptied, identity_put};
+use crate::runs::{identity_emptied, identity_put, identity_unnamed};
 use std::test::Fail;
 
 #[test]
@@ -16,11 +16,13 @@ fn reading_and_flushing_fail(rt: HostRuntime) -> Result<(), Fail> {
 #[test]
 fn writing_fails(rt: HostRuntime) -> Result<(), Fail> {
     writes_fail(rt.alloc(), &identity_put())?;
-    writes_fail(rt.alloc(), &identity_emptied())
+    writes_fail(rt.alloc(), &identity_emptied())?;
+    writes_fail(rt.alloc(), &identity_unnamed())
 }
 
 #[test]
 fn telling_fails(rt: HostRuntime) -> Result<(), Fail> {
     tells_fail(rt.alloc(), &identity_put())?;
-    tells_fail(rt.alloc(), &identity_emptied())
+    tells_fail(rt.alloc(), &identity_emptied())?;
+    tells_fail(rt.alloc(), &identity_unnamed())
 }

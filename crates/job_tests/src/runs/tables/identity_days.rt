@@ -134,7 +134,30 @@ static DAYS: [Row; 14] = [
     },
 ];
 
+/// With pseudonyms.
+static NAMED: [Row; 2] = [
+    Row {
+        name: "PatientID names nobody: R17 is told alone",
+        words: "dcmdeid +pi +rm key +k KEY FILE -",
+        start: Start::ExplicitLittle,
+        input: b"\x08\0 \0DA\x08\02024.01.",
+        lines: b"",
+        status: 2,
+        told: b"dcmtools: R17 at byte 188: no usable PatientID\n",
+        ..EMPTY
+    },
+    Row {
+        name: "PatientID names nobody: by the key",
+        words: "dcmdeid +pi +rm key +k KEY FILE -",
+        start: Start::ExplicitLittle,
+        input: b"\x08\0 \0DA\x08\020231231\x10\0 \0LO\x04\01234",
+        header: Start::ExplicitLittle,
+        lines: b"\x08\0 \0DA\x08\020181129\x10\0 \0LO\x16\0P72efef0a0cecf3a48f95 \x12\0b\0CS\x04\0YES \x12\0c\0LO\x1e\0dcmtools dcmdeid, PS3.15 2021b\x12\0d\0SQ\0\0\xff\xff\xff\xff\xfe\xff\0\xe0\xff\xff\xff\xff\x08\0\0\x01SH\x06\0113100\x08\0\x02\x01SH\x04\0DCM \x08\0\x04\x01LO*\0Basic Application Confidentiality Profile \xfe\xff\x0d\xe0\0\0\0\0\xfe\xff\0\xe0\xff\xff\xff\xff\x08\0\0\x01SH\x06\0113107\x08\0\x02\x01SH\x04\0DCM \x08\0\x04\x01LO>\0Retain Longitudinal Temporal Information Modified Dates Option\xfe\xff\x0d\xe0\0\0\0\0\xfe\xff\xdd\xe0\0\0\0\0(\0\x03\x03CS\x08\0MODIFIED",
+        ..EMPTY
+    },
+];
+
 /// Dates that are moved by the days of the key.
-pub fn identity_days() -> [&'static [Row]; 1] {
-    [&DAYS]
+pub fn identity_days() -> [&'static [Row]; 2] {
+    [&DAYS, &NAMED]
 }

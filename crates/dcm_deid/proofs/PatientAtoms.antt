@@ -153,11 +153,11 @@ module _ (n : Naming) (h : Held) (closed_one : NotOpen n) where
 
 -- ---- tags
 
-first_tag_only : (t u : Tag) (c : Bool) → same_tag u PATIENT_ID ≡ c → below t u ≡ true → below t PATIENT_ID ≡ false → c ≡ false
+pub first_tag_only : (t u : Tag) (c : Bool) → same_tag u PATIENT_ID ≡ c → below t u ≡ true → below t PATIENT_ID ≡ false → c ≡ false
 first_tag_only t u true same above e = absurd (let is : below t PATIENT_ID ≡ true = sym (ap (below t) (tag_is u PATIENT_ID same)) ∙ above in let no : true ≡ false = sym is ∙ e in cc)
 first_tag_only t u false same above e = refl
 
-still_above : (t u : Tag) (c : Bool) → below u PATIENT_ID ≡ c → below t u ≡ true → below t PATIENT_ID ≡ false → c ≡ false
+pub still_above : (t u : Tag) (c : Bool) → below u PATIENT_ID ≡ c → below t u ≡ true → below t PATIENT_ID ≡ false → c ≡ false
 still_above t u true less above e = absurd (let is : below t PATIENT_ID ≡ true = below_trans t u PATIENT_ID above less in let no : true ≡ false = sym is ∙ e in cc)
 still_above t u false less above e = refl
 
