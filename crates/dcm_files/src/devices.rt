@@ -59,8 +59,8 @@ pub trait System {
     fn create_new(&mut self, path: &str) -> io::Result<Opened<Self::Output>>
         ensures { may_do.makes self.old path.now result self.new };
 
-    /// Locks the regular file at a path, and holds it: until another one is held, or a file is moved or removed, no other
-    /// run locks it. Answers whether it is held, or another run has locked it. An error where it cannot be opened or
+    /// Locks the regular file at a path, and holds it: until another one is held, or a file is removed, no other run locks
+    /// it. Answers whether it is held, or another run has locked it. An error where it cannot be opened or
     /// locked, or is at the path no longer.
     fn seize(&mut self, path: &str) -> io::Result<bool>
         ensures { may_do.seizes self.old path.now result self.new };

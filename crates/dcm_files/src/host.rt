@@ -373,10 +373,11 @@ impl Host {
     fn lock_file(&mut self, path: &str) -> io::Result<bool>
         ensures { self.new.calls ≡ self.old.calls }
     {
-        let locked = locked_at(self.rt, path)?;
-        let is_held = locked.is_some();
-        self.held = locked;
-        Ok(is_held)
+        let Some(file) = locked_at(self.rt, path)? else {
+            return Ok(false);
+        };
+        self.held = Some(file);
+        Ok(true)
     }
 }
 
@@ -459,14 +460,15 @@ impl System for Host {
 
     fn rename(&mut self, from: &str, to: &str) -> io::Result<()> {
         let moved = fs::rename(&self.rt, from, to);
-        self.held = None;
         self.calls.note(from.as_bytes(), &(to.as_bytes(), &moved));
         moved
     }
 
     fn remove(&mut self, path: &str) -> io::Result<()> {
         let removed = fs::remove_file(&self.rt, path);
-        self.held = None;
+        if removed.is_ok() {
+            self.held = None;
+        }
         self.calls.note(path.as_bytes(), &removed);
         removed
     }

@@ -30,6 +30,10 @@ pub struct TreeDevices {
     pub has_links: bool,
     /// Whether a file may be locked.
     pub has_locks: bool,
+    /// Whether names that differ in small and capital letters alone are two names.
+    pub tells_letters: bool,
+    /// The path of a folder that is on another device.
+    pub elsewhere: &'static str,
     /// The path of a file that another run has locked.
     pub busy: &'static str,
     /// A path that cannot be opened.
@@ -51,6 +55,8 @@ pub const SOUND: TreeDevices = TreeDevices {
     umask: 0o022,
     has_links: true,
     has_locks: true,
+    tells_letters: true,
+    elsewhere: "",
     busy: "",
     locked: "",
     unlisted: "",

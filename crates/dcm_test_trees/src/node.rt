@@ -3,8 +3,11 @@ use super::tree::ROOT;
 use dcm_files::{Found, FoundKind};
 use std::alloc::{AllocError, Global};
 
-/// The device that all of a tree is on.
+/// The device that a tree is on.
 pub(crate) const DEVICE: u64 = 1;
+
+/// The device that a folder of a tree may be on instead.
+pub(crate) const OTHER_DEVICE: u64 = 2;
 
 /// The mode of a folder where none is said, and of what is neither a folder nor a regular file.
 pub(crate) const MODE: u32 = 0o755;
@@ -48,11 +51,11 @@ impl Node {
         matches!(self, Node::Folder(_, _))
     }
 
-    /// What looking at it finds, by its number.
-    pub(crate) fn found(&self, number: usize) -> Found {
+    /// What looking at it finds, by its device and its number there.
+    pub(crate) fn found(&self, device: u64, number: usize) -> Found {
         Found {
             kind: self.kind(),
-            device: DEVICE,
+            device,
             number: number as u64,
             mode: self.mode() & MODE_BITS,
         }

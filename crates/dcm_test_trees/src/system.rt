@@ -4,7 +4,7 @@ ghost use Rattle.dcm_files.specs.Folders as folders;
 
 use super::devices::{TreeDevices, TreeReader, TreeWriter};
 use super::listing::TreeFolder;
-use super::node::{DEVICE, Node};
+use super::node::{DEVICE, Node, OTHER_DEVICE};
 use super::place::{Place, place_at};
 use super::tree::Tree;
 use dcm_devices::Std;
@@ -56,6 +56,8 @@ fn folder_there() -> io::Error {
 impl MemoryTree {
     /// A system over a tree, with this standard input.
     pub fn new(alloc: Global, tree: Tree, stdin: Vec<u8>, devices: TreeDevices) -> Self {
+        let mut tree = tree;
+        tree.tells_letters = devices.tells_letters;
         MemoryTree {
             alloc,
             tree,
@@ -119,6 +121,15 @@ impl MemoryTree {
         match self.tree.node(number) {
             Some(Node::Folder(_, mode)) => Ok(*mode & MODE_BITS),
             _ => Err(io::Error::from(ErrorKind::NotADirectory)),
+        }
+    }
+
+    /// The device that what is at a path is on.
+    fn device(&self, path: &str) -> u64 {
+        if path == self.devices.elsewhere {
+            OTHER_DEVICE
+        } else {
+            DEVICE
         }
     }
 
@@ -326,7 +337,6 @@ impl System for MemoryTree {
         if target.node != Some(number) {
             self.move_name(&place, &target, number)?;
         }
-        self.held = None;
         Ok(())
     }
 
@@ -380,7 +390,11 @@ impl Folders for MemoryTree {
 
     fn find(&mut self, path: &str, links: Links) -> io::Result<Option<Found>> {
         match self.number(path, links) {
-            Ok(number) => Ok(self.tree.node(number).map(|node| node.found(number))),
+            Ok(number) => Ok(
+                self.tree
+                    .node(number)
+                    .map(|node| node.found(self.device(path), number)),
+            ),
             Err(e) if e.kind() == ErrorKind::NotFound => Ok(None),
             Err(e) => Err(e),
         }

@@ -29,6 +29,8 @@ pub struct Tree {
     pub(crate) alloc: Global,
     pub(crate) names: Vec<Name>,
     pub(crate) nodes: Vec<Node>,
+    /// Whether names that differ in small and capital letters alone are two names.
+    pub(crate) tells_letters: bool,
 }
 
 impl Tree {
@@ -38,6 +40,7 @@ impl Tree {
             alloc,
             names: Vec::new(alloc),
             nodes: Vec::new(alloc),
+            tells_letters: true,
         };
         tree.nodes.push(Node::folder(MODE))?;
         tree.add(ROOT, CURRENT_NAME, Node::folder(MODE))?;
@@ -65,16 +68,24 @@ impl Tree {
         }
     }
 
+    /// Whether two names of a folder are one.
+    fn is_one(&self, name: &[u8], other: &[u8]) -> bool {
+        if self.tells_letters {
+            return name == other;
+        }
+        name.eq_ignore_ascii_case(other)
+    }
+
     /// The place of a name of a folder among all names.
     fn place_of(&self, folder: usize, text: &[u8]) -> Option<usize> {
         self.names.as_slice().iter().position(|name| name.folder == folder
-            && name.text.as_slice() == text)
+            && self.is_one(name.text.as_slice(), text))
     }
 
     /// What a name of a folder stands for.
     pub(crate) fn child(&self, folder: usize, text: &[u8]) -> Option<usize> {
         for name in self.names.as_slice() {
-            if name.folder == folder && name.text.as_slice() == text {
+            if name.folder == folder && self.is_one(name.text.as_slice(), text) {
                 return Some(name.node);
             }
         }

@@ -26,7 +26,7 @@ use Rattle.dcm_trees.specs.Tree.{VisitsAll}
 use Rattle.dcm_trees.specs.Work.{visits_of}
 use Rattle.dcm_trees.specs.World.{world}
 use Rattle.dcm_tree_laws.specs.Again.{OfAll}
-use Rattle.dcm_tree_laws.specs.Course.{IsMade, IsCleared, Ready}
+use Rattle.dcm_tree_laws.specs.Course.{IsMade, IsCleared, IsTried, Ready}
 use Rattle.dcm_tree_laws.specs.FileSystem.{FileSystem, Tree, Host, number_of, place_of, at_path, may_do, folders_do}
 use Rattle.dcm_tree_laws.specs.Laws.{IsOutput, part_path}
 use Rattle.dcm_tree_laws.specs.OneRow.{FolderHasRows}
@@ -108,10 +108,11 @@ listing_tells h gives = record {
 
 -- ---- what was there at the start
 
-only_kept : {I O : Type 0} (h : Host I O) (output part : List ℕ) (t u : Tree) (place : List ℕ) (f : Found) → t.at place ≡ Some f → place ≢ place_of h part → (u.at place ≡ t.at place) ⊎ (IsMade h output place t u ⊎ IsCleared h part place t u) → u.at place ≡ Some f
+only_kept : {I O : Type 0} (h : Host I O) (output part : List ℕ) (t u : Tree) (place : List ℕ) (f : Found) → t.at place ≡ Some f → place ≢ place_of h part → (u.at place ≡ t.at place) ⊎ (IsMade h output place t u ⊎ (IsCleared h part place t u ⊎ IsTried h part place u)) → u.at place ≡ Some f
 only_kept h output part t u place f is apart (inl same) = same ∙ is
 only_kept h output part t u place f is apart (inr (inl made)) = absurd (let no : Some f ≡ None = sym is ∙ made.nothing in cc)
-only_kept h output part t u place f is apart (inr (inr cleared)) = absurd (apart cleared.of_part)
+only_kept h output part t u place f is apart (inr (inr (inl cleared))) = absurd (apart cleared.of_part)
+only_kept h output part t u place f is apart (inr (inr (inr tried))) = absurd (apart tried.of_part)
 
 -- ---- the states of a run
 
@@ -150,7 +151,7 @@ first_good h run start begun before first from ready shares = record {
   still = record {
     there = λ place f apart is. only_kept h run.output.now (part_path run) start before.now place f is
         (subst (λ (p : List ℕ). place ≢ place_of h p) (ap (λ (k : Manner). k.part) shares.manner ∙ ready.part_is) apart) (ready.only.names place);
-    bytes = λ place f apart is. ready.only.bytes (number_of f);
+    bytes = λ place f apart is. ready.only.bytes place f (subst (λ (p : List ℕ). place ≢ place_of h p) (ap (λ (k : Manner). k.part) shares.manner ∙ ready.part_is) apart) is;
   };
 }
 

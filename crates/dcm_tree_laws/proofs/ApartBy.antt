@@ -13,13 +13,14 @@ use Rattle.dcm_files.specs.declared.folders.Links.TheVariants.{Followed}
 use Rattle.dcm_walk.specs.declared.folder.FolderNumber.{FolderNumber}
 use Rattle.dcm_walk.specs.Names.{PATH_LIMIT, below}
 use Rattle.dcm_tree_words.specs.Trees.{folder}
+use Rattle.dcm_tree_words.specs.declared.said.TreeOptions.{TreeOptions}
 use Rattle.dcm_cli.specs.Calls.{Reader}
 use Rattle.dcm_trees.specs.declared.beginning.Begun.{Begun}
 use Rattle.dcm_trees.specs.declared.beginning.Refusal.TheVariants as refusals
 use Rattle.dcm_trees.specs.declared.beginning.Spared.{Spared}
 use Rattle.dcm_trees.specs.declared.run.TreeRun.{TreeRun}
 use Rattle.dcm_trees.specs.Beginning as beginning
-use Rattle.dcm_trees.specs.Beginning.{Looks, Numbers, Climbed, Climbs, IsThere, Compares, MakesApart, HasOutput, ChecksEmpty, ChecksNew, ChecksUse, Begins, above, clash, is_same, is_within, parent_of}
+use Rattle.dcm_trees.specs.Beginning.{Looks, Numbers, Climbed, Climbs, IsThere, Compares, MakesApart, HasOutput, ChecksEmpty, ChecksNew, Begins, above, clash, is_same, is_within, parent_of}
 use Rattle.dcm_trees.specs.Tree as spec
 use Rattle.dcm_trees.specs.Tree.{OpensTree, VisitsFolder, DoesOpened, DoesFolder, DoesTree, part_of, spared_of}
 use Rattle.dcm_trees.specs.World.{World}
@@ -28,7 +29,7 @@ use Rattle.dcm_tree_laws.specs.Course.{IsNumberAt, Ready, TellsLeft, nothing_tol
 use Rattle.dcm_tree_laws.specs.FileSystem.{FileSystem, Tree, Host, begins, may_do, at_path}
 use Rattle.dcm_tree_laws.specs.Laws.{over}
 use Rattle.dcm_tree_laws.specs.Visited.{GivesAll, HasOnce, NamesItself, telling, over_telling}
-use Rattle.dcm_tree_laws.proofs.Beginnings.{numbers, climbed, climbs, is_there, checks_use, begins_told}
+use Rattle.dcm_tree_laws.proofs.Beginnings.{numbers, climbed, climbs, is_there, new_use, begins_told}
 use Rattle.dcm_tree_laws.proofs.Clearing.{FoldersOver, InputsOver, folders_over, inputs_over}
 use Rattle.dcm_tree_laws.proofs.CourseBy.{opens_tree, ready}
 use Rattle.dcm_tree_laws.proofs.Looking.{same_ok}
@@ -170,13 +171,13 @@ module _ {I O F : Type 0} (h : Host I O) (d : FoldersDo FileSystem O F) (is_over
       subst (λ (s : FileSystem). LieApart h s.now input output number) still
       (of_made input output looked number after (subst (λ (s : FileSystem). s.now.at (h.leads Followed output) ≡ None) (sym still) (nothing_there output before looked l)) m)
 
-  of_begun : {E : Type 0} (may : MayDo FileSystem I O) (e : Writer E) (input output name : List ℕ) (continues : Bool) (spared : Spared) (from : E) (before : FileSystem) (begun : Begun) (to : E) (after : FileSystem) → Begins may d e input false output name continues spared from before (Ok begun) to after
+  of_begun : {E : Type 0} (may : MayDo FileSystem I O) (e : Writer E) (input output name : List ℕ) (options : TreeOptions) (spared : Spared) (from : E) (before : FileSystem) (begun : Begun) (to : E) (after : FileSystem) → Begins may d e input false output name options spared from before (Ok begun) to after
       → LieApart h before.now input output begun.number
-  of_begun may e input output name continues spared from before begun to after (beginning.no_output refusal has is silent) = absurd (cc)
-  of_begun may e input output name continues spared from before begun to after (beginning.no_part number refusal has p is silent) = absurd (cc)
-  of_begun may e input output name continues spared from before begun to after (beginning.has_part number path refusal mid has p c is) = absurd (cc)
-  of_begun may e input output name continues spared from before begun to after (beginning.in_use number path refusal mid checked has p c u is) = absurd (cc)
-  of_begun may e input output name continues spared from before begun to after (beginning.begun number path mid checked has p c u is) =
+  of_begun may e input output name options spared from before begun to after (beginning.no_output refusal has is silent) = absurd (cc)
+  of_begun may e input output name options spared from before begun to after (beginning.no_part number refusal has p is silent) = absurd (cc)
+  of_begun may e input output name options spared from before begun to after (beginning.has_part number path refusal mid has p c is) = absurd (cc)
+  of_begun may e input output name options spared from before begun to after (beginning.in_use number path refusal mid checked has p c u is) = absurd (cc)
+  of_begun may e input output name options spared from before begun to after (beginning.begun number path mid checked has p c u is) =
       subst (λ (b : Begun). LieApart h before.now input output b.number) (same_ok (Ok begun) begun (record { number = number; part = path }) refl is) (of_output input output before number mid has)
 
 -- ---- it is empty
@@ -207,25 +208,22 @@ module _ {I O F : Type 0} (h : Host I O) (gives : F → List (List ℕ)) (itself
       own_empty h before.now output own itself (own_path (nat_le (length (below output (codes "."))) PATH_LIMIT) (below output (codes ".")) own is) (checked_empty own before after c)
   checked_new output before after (beginning.too_long is c) = checked_empty output before after c
 
-  checked_use : (output : List ℕ) (continues : Bool) (before after : FileSystem) → continues ≡ false → ChecksUse (telling h gives) output continues before (Ok _) after → IsEmpty h before.now output
-  checked_use output continues before after new (beginning.goes_on goes is same) = absurd (true_false continues goes new)
-  checked_use output continues before after new (beginning.is_new goes c) = checked_new output before after c
-
-  begun_empty : {E : Type 0} (may : MayDo FileSystem I O) (e : Writer E) (input output name : List ℕ) (continues : Bool) (spared : Spared) (from : E) (before : FileSystem) (begun : Begun) (to : E) (after : FileSystem) → continues ≡ false
-      → Begins may (telling h gives) e input false output name continues spared from before (Ok begun) to after → IsEmpty h after.now output
-  begun_empty may e input output name continues spared from before begun to after new (beginning.no_output refusal has is silent) = absurd (cc)
-  begun_empty may e input output name continues spared from before begun to after new (beginning.no_part number refusal has p is silent) = absurd (cc)
-  begun_empty may e input output name continues spared from before begun to after new (beginning.has_part number path refusal mid has p c is) = absurd (cc)
-  begun_empty may e input output name continues spared from before begun to after new (beginning.in_use number path refusal mid checked has p c u is) = absurd (cc)
-  begun_empty may e input output name continues spared from before begun to after new (beginning.begun number path mid checked has p c u is) =
-      still_empty h output checked after (checks_use (telling h gives) (telling_over h gives).quiet output continues checked (Ok _) after u) (checked_use output continues checked after new u)
+  begun_empty : {E : Type 0} (may : MayDo FileSystem I O) (e : Writer E) (input output name : List ℕ) (options : TreeOptions) (spared : Spared) (from : E) (before : FileSystem) (begun : Begun) (to : E) (after : FileSystem) → options.continues ≡ false
+      → Begins may (telling h gives) e input false output name options spared from before (Ok begun) to after → IsEmpty h after.now output
+  begun_empty may e input output name options spared from before begun to after new (beginning.no_output refusal has is silent) = absurd (cc)
+  begun_empty may e input output name options spared from before begun to after new (beginning.no_part number refusal has p is silent) = absurd (cc)
+  begun_empty may e input output name options spared from before begun to after new (beginning.has_part number path refusal mid has p c is) = absurd (cc)
+  begun_empty may e input output name options spared from before begun to after new (beginning.in_use number path refusal mid checked has p c u is) = absurd (cc)
+  begun_empty may e input output name options spared from before begun to after new (beginning.begun number path mid checked has p c u is) =
+      let x = new_use may (telling h gives) (telling_over h gives).quiet input false output number name path.items options checked (Ok _) after new u in
+      still_empty h output checked after x.1 (checked_new output checked after x.0)
 
 -- ---- the run
 
 -- something is so of what a run was begun with
 abbrev IsSoBegun : {I O F E : Type 0} (w : World FileSystem I O F E) → (IsSo : FolderNumber → Tree → Type 0) → (run : TreeRun) → (path : List ℕ) → (start : Tree) → Type 0
 IsSoBegun {I} {O} {F} {E} w IsSo run path start = (from : E) (begun : Begun) (told : E) (mid : FileSystem)
-    → Begins w.may w.folders w.errors path false run.output.now (part_of run) run.options.continues (spared_of run) from (begins start) (Ok begun) told mid → IsSo begun.number mid.now
+    → Begins w.may w.folders w.errors path false run.output.now (part_of run) run.options (spared_of run) from (begins start) (Ok begun) told mid → IsSo begun.number mid.now
 
 module _ {I O F W E : Type 0} (h : Host I O) (w : World FileSystem I O F E) (folders_are : FoldersOver h w.folders) (inputs_are : InputsOver h w.may) (m : Writer W) (IsSo : FolderNumber → Tree → Type 0) (run : TreeRun) (path : List ℕ) (start : Tree) (so : IsSoBegun w IsSo run path start) (manifest : W) (from : E) (status : ℕ) (left : W) (to : E) (after : FileSystem) where
   abbrev Begins_so : Type 0
@@ -237,9 +235,9 @@ module _ {I O F W E : Type 0} (h : Host I O) (w : World FileSystem I O F E) (fol
 
   of_opened : (opened : F) → DoesOpened w m run path opened manifest from (begins start) status left to after → Begins_so
   of_opened opened (spec.not_begun refusal told tried b close refuses same) =
-      refused refusal told (begins_told w.may w.folders w.errors path false run.output.now (part_of run) run.options.continues (spared_of run) from (begins start) (Err refusal) told tried b) refuses same
+      refused refusal told (begins_told w.may w.folders w.errors path false run.output.now (part_of run) run.options (spared_of run) from (begins start) (Err refusal) told tried b) refuses same
   of_opened opened (spec.was_begun begun told mid b v) =
-      of_visits opened begun told mid (begins_told w.may w.folders w.errors path false run.output.now (part_of run) run.options.continues (spared_of run) from (begins start) (Ok begun) told mid b)
+      of_visits opened begun told mid (begins_told w.may w.folders w.errors path false run.output.now (part_of run) run.options (spared_of run) from (begins start) (Ok begun) told mid b)
       (ready h w.may inputs_are w.folders folders_are w.errors run start path false (spared_of run) from begun told mid b) (so from begun told mid b) v
 
   of_folder : DoesFolder w m run path manifest from (begins start) status left to after → Begins_so
@@ -255,9 +253,9 @@ module _ {I O F W E : Type 0} (h : Host I O) (w : World FileSystem I O F E) (fol
 pub outputs_lie_apart : {I O F W E : Type 0} (r : Reader I) (w : Writer O) (m : Writer W) (e : Writer E) → OutputsLieApart F r w m e
 outputs_lie_apart {I} {O} {F} {W} {E} r w m e h run path start manifest from status left to after met does =
     of_run h (over {F = F} h r w e) (folders_over h) (inputs_over {I = I} h) m (λ number now. LieApart h start path run.output.now number) run path start
-    (λ from begun told mid b. of_begun h (over {F = F} h r w e).folders (folders_over h) (may_do {I = I} h) e path run.output.now (part_of run) run.options.continues (spared_of run) from (begins start) begun told mid b) manifest from status left to after does
+    (λ from begun told mid b. of_begun h (over {F = F} h r w e).folders (folders_over h) (may_do {I = I} h) e path run.output.now (part_of run) run.options (spared_of run) from (begins start) begun told mid b) manifest from status left to after does
 
 pub outputs_begin_empty : {I O F W E : Type 0} (r : Reader I) (w : Writer O) (m : Writer W) (e : Writer E) → OutputsBeginEmpty F r w m e
 outputs_begin_empty {I} {O} {F} {W} {E} r w m e h gives itself run path start manifest from status left to after new does =
     of_run h (over_telling h gives r w e) (telling_over h gives) (inputs_over {I = I} h) m (λ number now. IsEmpty h now run.output.now) run path start
-    (λ from begun told mid b. begun_empty h gives itself (may_do {I = I} h) e path run.output.now (part_of run) run.options.continues (spared_of run) from (begins start) begun told mid new b) manifest from status left to after does
+    (λ from begun told mid b. begun_empty h gives itself (may_do {I = I} h) e path run.output.now (part_of run) run.options (spared_of run) from (begins start) begun told mid new b) manifest from status left to after does

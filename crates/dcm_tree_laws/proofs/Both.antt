@@ -1,7 +1,7 @@
 -- What holds of a file system after all steps of a run.
 use Rattle.std.specs.Prelude.{Bool, []}
 use Rattle.std.proofs.Common.{◌≡◌, refl, List, Option, None}
-use Rattle.dcm_tree_laws.specs.FileSystem.{FileSystem, Tree, Host}
+use Rattle.dcm_tree_laws.specs.FileSystem.{FileSystem, Tree, Number, Host}
 use Rattle.dcm_tree_laws.proofs.Near.{IsNear}
 use Rattle.dcm_tree_laws.specs.Whole.{was_there, nothing, IsWholeAt}
 use Rattle.dcm_tree_laws.proofs.Steps.{Phase, idle, StepIn, StepsIn, all_keep}
@@ -29,12 +29,12 @@ as_it_was : (IsWhole : ℕ → List ℕ → Type 0) (start : Tree) (p : List ℕ
 as_it_was IsWhole start p None is = nothing is
 as_it_was IsWhole start p (Some f) is = was_there f is is refl
 
--- one as it is found, in which a file could not be removed before, or not
-abbrev pub afresh : Tree → (unremoved : Bool) → FileSystem
-afresh start unremoved = record { now = start; earlier = []; written = None; unremoved = unremoved }
+-- one as it is found, with the file that is held, and in which a file could not be removed before, or not
+abbrev pub afresh : Tree → (held : Option Number) → (unremoved : Bool) → FileSystem
+afresh start held unremoved = record { now = start; earlier = []; written = None; held = held; unremoved = unremoved }
 
-first : {I O : Type 0} (h : Host I O) (IsWhole : ℕ → List ℕ → Type 0) (part : List ℕ) (Of : List ℕ → Type 0) (start : Tree) (unremoved : Bool) → BothIn h IsWhole part Of start idle (afresh start unremoved)
-first h IsWhole part Of start unremoved = record {
+first : {I O : Type 0} (h : Host I O) (IsWhole : ℕ → List ℕ → Type 0) (part : List ℕ) (Of : List ℕ → Type 0) (start : Tree) (held : Option Number) (unremoved : Bool) → BothIn h IsWhole part Of start idle (afresh start held unremoved)
+first h IsWhole part Of start held unremoved = record {
   keeps = record {
     stays = record { there = λ p f other is. is; bytes = λ p f other is. refl; new = λ p. inl refl };
     earlier = tt;
@@ -44,7 +44,7 @@ first h IsWhole part Of start unremoved = record {
 }
 
 -- after any steps
-pub after_steps : {I O : Type 0} (h : Host I O) (IsWhole : ℕ → List ℕ → Type 0) (part : List ℕ) (Of : List ℕ → Type 0) (start : Tree) (unremoved : Bool) → Of part → (then : Phase) (after : FileSystem)
-    → StepsIn h IsWhole part Of idle (afresh start unremoved) then after → BothIn h IsWhole part Of start then after
-after_steps h IsWhole part Of start unremoved of_output then after steps =
-    all_keep (BothIn h IsWhole part Of start) (each h IsWhole part Of start of_output) idle (afresh start unremoved) then after steps (first h IsWhole part Of start unremoved)
+pub after_steps : {I O : Type 0} (h : Host I O) (IsWhole : ℕ → List ℕ → Type 0) (part : List ℕ) (Of : List ℕ → Type 0) (start : Tree) (held : Option Number) (unremoved : Bool) → Of part → (then : Phase) (after : FileSystem)
+    → StepsIn h IsWhole part Of idle (afresh start held unremoved) then after → BothIn h IsWhole part Of start then after
+after_steps h IsWhole part Of start held unremoved of_output then after steps =
+    all_keep (BothIn h IsWhole part Of start) (each h IsWhole part Of start of_output) idle (afresh start held unremoved) then after steps (first h IsWhole part Of start held unremoved)

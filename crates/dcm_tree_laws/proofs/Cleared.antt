@@ -44,7 +44,7 @@ step_mono h IsWhole part output at before then after (not_filled mode bytes kept
 step_mono h IsWhole part output at before then after (named bytes path was to l same) none = sym l.notes.unremoved_is ∙ none
 step_mono h IsWhole part output at before then after (moved bytes path was to nothing m is) none = sym (moves_mono h part path before after m) ∙ none
 step_mono h IsWhole part output at before then after (removed rest r is) none = sym r.notes.unremoved_is ∙ none
-step_mono h IsWhole part output at before then after (not_removed rest same is) none = true_false after.unremoved (ap (λ (s : FileSystem). s.unremoved) same) none
+step_mono h IsWhole part output at before then after (not_removed held rest same is) none = true_false after.unremoved (ap (λ (s : FileSystem). s.unremoved) same) none
 step_mono h IsWhole part output at before then after (left rest same is) none = sym (ap (λ (s : FileSystem). s.unremoved) same) ∙ none
 
 pub steps_mono : {I O : Type 0} {h : Host I O} {IsWhole : ℕ → List ℕ → Type 0} {part output : List ℕ} {at : Phase} {before : FileSystem} {then : Phase} {after : FileSystem} → Steps h IsWhole part output at before then after

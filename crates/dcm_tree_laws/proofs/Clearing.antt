@@ -18,7 +18,8 @@ use Rattle.dcm_trees.specs.Beginning as spec
 use Rattle.dcm_trees.specs.Beginning.{RemovesLocked, RemovesLeft, ClearsFound, ChecksPart, ClearsWay, is_file, may_be_left}
 use Rattle.dcm_tree_laws.specs.Course.{TellsLeft, nothing_told, was_told}
 use Rattle.dcm_tree_laws.specs.FileSystem as files
-use Rattle.dcm_tree_laws.specs.FileSystem.{FileSystem, Host, Removes, OrFails, OrStays, may_do, folders_do, at_path}
+use Rattle.dcm_tree_laws.specs.FileSystem.{FileSystem, Number, Host, Removes, OrFails, OrStays, Seizes, Holds, ClosesOutput, may_do, folders_do, at_path}
+use Rattle.dcm_tree_laws.proofs.Closing.{closes_kept}
 use Rattle.dcm_tree_laws.proofs.Looking.{same_ok}
 use Rattle.dcm_tree_laws.proofs.Quiet.{Quiet, are_quiet}
 
@@ -30,20 +31,25 @@ pub record FoldersOver {I O F : Type 0} (h : Host I O) (d : FoldersDo FileSystem
   pub quiet : Quiet d
   pub finds : (before : FileSystem) (path : List ℕ) (links : Links) (found : Option Found) (after : FileSystem) → d.finds before path links (Ok found) after → found ≡ before.now.at (h.leads links path)
   pub makes : (before : FileSystem) (path : List ℕ) (mode : ℕ) (r : Result (Unit {0}) Error) (after : FileSystem) → d.makes_folder before path mode r after → OrFails r (files.MakesFolder h path mode before after) before after
+  pub makes_as : (before : FileSystem) (path : List ℕ) (mode : ℕ) (r : Result (Opened O) Error) (after : FileSystem) → d.makes_as before path mode r after → OrFails r (files.MakesFile h path mode before after) before after
 
--- to open an input, to give it back, and to lock a file leave it as it is; and one removes a file, or notes that it is not removed
+-- to open an input and to give it back leave it as it is; one locks a file, and one tells whether that is at a path; one
+-- removes a file, or notes that it is not removed; and one closes an output
 pub record InputsOver {I O : Type 0} (h : Host I O) (may : MayDo FileSystem I O) : Type 0 where
   pub stdin : (before : FileSystem) (o : Opened I) (after : FileSystem) → may.stdin before o after → after ≡ before
   pub opens : (before : FileSystem) (path : List ℕ) (r : Result (Opened I) Error) (after : FileSystem) → may.opens before path r after → after ≡ before
   pub releases : (before : FileSystem) (input : I) (after : FileSystem) → may.releases before input after → after ≡ before
-  pub seizes : (before : FileSystem) (path : List ℕ) (r : Result Bool Error) (after : FileSystem) → may.seizes before path r after → after ≡ before
+  pub seizes : (before : FileSystem) (path : List ℕ) (r : Result Bool Error) (after : FileSystem) → may.seizes before path r after → Seizes r before after
+  pub holds : (before : FileSystem) (path : List ℕ) (is_held : Bool) (after : FileSystem) → may.holds before path is_held after → Holds h path before is_held after
   pub removes : (before : FileSystem) (path : List ℕ) (r : Result (Unit {0}) Error) (after : FileSystem) → may.removes before path r after → OrStays r (Removes h path before after) before after
+  pub closes : (before : FileSystem) (output : O) (r : Result (Unit {0}) Error) (after : FileSystem) → may.closes before output r after → (all : List ℕ) × (kept : List ℕ) × ClosesOutput before.written all kept before after
 
 pub folders_over : {I O F : Type 0} (h : Host I O) → FoldersOver h (folders_do {F = F} h)
 folders_over h = record {
   quiet = are_quiet h;
   finds = λ before path links found after call. call.0;
   makes = λ before path mode r after call. call;
+  makes_as = λ before path mode r after call. call.0;
 }
 
 pub inputs_over : {I O : Type 0} (h : Host I O) → InputsOver h (may_do {I = I} h)
@@ -52,7 +58,9 @@ inputs_over h = record {
   opens = λ before path r after call. call.0;
   releases = λ before input after call. call;
   seizes = λ before path r after call. call;
+  holds = λ before path is_held after call. call;
   removes = λ before path r after call. call;
+  closes = λ before output r after call. let x = closes_kept before.written (h.took output) before r after call in (h.took output, x.0, x.1);
 }
 
 -- ---- what becomes of it
@@ -60,7 +68,7 @@ inputs_over h = record {
 -- all is as it was, but perhaps that a file could not be removed; or a regular file at the part was removed
 pub data Clearing {I O : Type 0} (h : Host I O) (part : List ℕ) (before after : FileSystem) : Type 0 where
   still : after ≡ before → Clearing h part before after
-  failed : after ≡ record before { unremoved = true } → Clearing h part before after
+  failed : (held : Option Number) → after ≡ record before { held = held; unremoved = true } → Clearing h part before after
   gone : (was : Found) → at_path h before.now part ≡ Some was → was.kind ≡ kinds.File → Removes h part before after → Clearing h part before after
 
 -- where the run goes on, the path of the part is text, and nothing is there; and else all is as it was
@@ -91,15 +99,28 @@ from_same h part before mid after same c = subst (λ (s : FileSystem). Clearing 
 clear_same : {I O : Type 0} (h : Host I O) (part : List ℕ) (before mid after : FileSystem) → mid ≡ before → IsClear h part mid after → IsClear h part before after
 clear_same h part before mid after same c = subst (λ (s : FileSystem). IsClear h part s after) same c
 
+-- whatever was held before
+
+removes_held : {I O : Type 0} (h : Host I O) (part : List ℕ) (before : FileSystem) (held : Option Number) (after : FileSystem) → Removes h part (record before { held = held }) after → Removes h part before after
+removes_held h part before held after r = record {
+  puts = r.puts;
+  bytes = r.bytes;
+  notes = record { noted = r.notes.noted; written_is = r.notes.written_is; unremoved_is = r.notes.unremoved_is };
+  held_is = r.held_is;
+}
+
+clear_held : {I O : Type 0} (h : Host I O) (part : List ℕ) (before : FileSystem) (held : Option Number) (after : FileSystem) → IsClear h part (record before { held = held }) after → IsClear h part before after
+clear_held h part before held after c = record { text = c.text; nothing = c.nothing; written = c.written; unremoved = c.unremoved }
+
 module _ {I O F E : Type 0} (h : Host I O) (may : MayDo FileSystem I O) (inputs : InputsOver h may) (d : FoldersDo FileSystem O F) (folders : FoldersOver h d) (e : Writer E) where
-  locked_clearing : (part : List ℕ) (before : FileSystem) (r : Result Bool Refusal) (after : FileSystem) → RemovesLocked may part before r after → (was : Found) → at_path h before.now part ≡ Some was → was.kind ≡ kinds.File → Clearing h part before after
-  locked_clearing part before r after (spec.removed call is) was there kind = gone was there kind (inputs.removes before part (Ok _) after call)
-  locked_clearing part before r after (spec.not_removed error call is) was there kind = failed (inputs.removes before part (Err error) after call)
+  locked_clearing : (part : List ℕ) (before : FileSystem) (file : Number) (r : Result Bool Refusal) (after : FileSystem) → RemovesLocked may part (record before { held = Some file }) r after → (was : Found) → at_path h before.now part ≡ Some was → was.kind ≡ kinds.File → Clearing h part before after
+  locked_clearing part before file r after (spec.removed call is) was there kind = gone was there kind (removes_held h part before (Some file) after (inputs.removes (record before { held = Some file }) part (Ok _) after call))
+  locked_clearing part before file r after (spec.not_removed error call is) was there kind = failed (Some file) (inputs.removes (record before { held = Some file }) part (Err error) after call)
 
   left_clearing : (part : List ℕ) (before : FileSystem) (r : Result Bool Refusal) (after : FileSystem) → RemovesLeft may part before r after → (was : Found) → at_path h before.now part ≡ Some was → was.kind ≡ kinds.File → Clearing h part before after
   left_clearing part before r after (spec.locked mid call removes) was there kind =
-      let same : mid ≡ before = inputs.seizes before part (Ok true) mid call in
-      from_same h part before mid after same (locked_clearing part mid r after removes was (at_same h part was before mid same there) kind)
+      let x : (file : Number) × (mid ≡ record before { held = Some file }) = inputs.seizes before part (Ok true) mid call in
+      locked_clearing part before x.0 r after (subst (λ (s : FileSystem). RemovesLocked may part s r after) x.1 removes) was there kind
   left_clearing part before r after (spec.at_work call is) was there kind = still (inputs.seizes before part (Ok false) after call)
   left_clearing part before r after (spec.not_locked error call is) was there kind = still (inputs.seizes before part (Err error) after call)
 
@@ -130,7 +151,9 @@ module _ {I O F E : Type 0} (h : Host I O) (may : MayDo FileSystem I O) (inputs 
   locked_clear part text before was_left after (spec.not_removed error call is) = absurd (cc)
 
   left_clear : (part : List ℕ) → IsUtf8 part → (before : FileSystem) (was_left : Bool) (after : FileSystem) → RemovesLeft may part before (Ok was_left) after → IsClear h part before after
-  left_clear part text before was_left after (spec.locked mid call removes) = clear_same h part before mid after (inputs.seizes before part (Ok true) mid call) (locked_clear part text mid was_left after removes)
+  left_clear part text before was_left after (spec.locked mid call removes) =
+      let x : (file : Number) × (mid ≡ record before { held = Some file }) = inputs.seizes before part (Ok true) mid call in
+      clear_held h part before (Some x.0) after (clear_same h part (record before { held = Some x.0 }) mid after x.1 (locked_clear part text mid was_left after removes))
   left_clear part text before was_left after (spec.at_work call is) = absurd (cc)
   left_clear part text before was_left after (spec.not_locked error call is) = absurd (cc)
 

@@ -17,6 +17,7 @@ pub mod Naming
 pub mod Filling
 pub mod Jobs
 pub mod Files
+pub mod Trying
 pub mod Beginnings
 pub mod Runs
 pub mod OfRuns

@@ -28,7 +28,7 @@ pub removes_part : {I O : Type 0} (h : Host I O) (IsWhole : ℕ → List ℕ →
     → StepsIn h IsWhole part Of at before idle after
 removes_part h IsWhole part Of at rest before after (spec.no_text t is) = one (left rest is refl)
 removes_part h IsWhole part Of at rest before after (spec.removed (Ok u) t call) = one (removed rest call refl)
-removes_part h IsWhole part Of at rest before after (spec.removed (Err e) t call) = one (not_removed rest call refl)
+removes_part h IsWhole part Of at rest before after (spec.removed (Err e) t call) = one (not_removed before.held rest call refl)
 
 moves_part : {I O : Type 0} (h : Host I O) (IsWhole : ℕ → List ℕ → Type 0) (part : List ℕ) (Of : List ℕ → Type 0) (bytes path : List ℕ) → Of path → (before : FileSystem) → (HasWay h before.now path → at_path h before.now path ≡ None)
     → (naming : Naming) (after : FileSystem) → MovesPart (may_do {I = I} h) part path before naming after → StepsIn h IsWhole part Of (whole bytes) before (phase_of bytes naming) after

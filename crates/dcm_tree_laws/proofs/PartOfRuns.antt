@@ -6,6 +6,7 @@ use Rattle.dcm_lemmas.proofs.Truth.{true_false}
 use Rattle.dcm_devices.specs.Writing.{Writer}
 use Rattle.dcm_files.specs.declared.opened.FileKind.{FileKind}
 use Rattle.dcm_cli.specs.Calls.{Reader}
+use Rattle.dcm_tree_words.specs.declared.said.TreeOptions.{TreeOptions}
 use Rattle.dcm_walk.specs.Names.{below}
 use Rattle.dcm_walk.specs.declared.folder.FolderNumber.{FolderNumber}
 use Rattle.dcm_trees.specs.declared.beginning.Begun.{Begun}
@@ -13,7 +14,7 @@ use Rattle.dcm_trees.specs.declared.beginning.Refusal.{Refusal}
 use Rattle.dcm_trees.specs.declared.beginning.Spared.{Spared}
 use Rattle.dcm_trees.specs.declared.run.TreeRun.{TreeRun}
 use Rattle.dcm_trees.specs.Beginning as beginning
-use Rattle.dcm_trees.specs.Beginning.{MakesFolder, MakesOutput, MakesApart, HasOutput, ClearsWay, IsPart, Begins, parent_of}
+use Rattle.dcm_trees.specs.Beginning.{MakesFolder, MakesOutput, MakesApart, HasOutput, ClearsWay, ChecksUse, IsPart, Begins, parent_of}
 use Rattle.dcm_trees.specs.Modes.{Modes}
 use Rattle.dcm_trees.specs.Tree as spec
 use Rattle.dcm_trees.specs.Tree.{VisitsFolder, VisitsList, DoesOpened, DoesFolder, DoesNames, DoesList, DoesTree, part_of, spared_of, spared_with}
@@ -31,6 +32,7 @@ use Rattle.dcm_tree_laws.proofs.PartsBy.{no_part_left, no_part_left_by_list}
 use Rattle.dcm_tree_laws.proofs.Quiet.{are_quiet}
 use Rattle.dcm_tree_laws.proofs.Runs.{begun_part, opens_tree, opens_input}
 use Rattle.dcm_tree_laws.proofs.Steps.{idle}
+use Rattle.dcm_tree_laws.proofs.Trying.{Trying, well, stays, still, gone, tried_unremoved}
 
 -- ---- the folder of the outputs is at another place
 
@@ -101,8 +103,14 @@ first_then h part a b c first second none =
 
 clearing_leaves : {I O : Type 0} (h : Host I O) (part : List ℕ) (before after : FileSystem) → Clearing h part before after → LeavesNoPart h part before after
 clearing_leaves h part before after (clearing.still same) none = (sym (ap (λ (s : FileSystem). s.unremoved) same) ∙ none, inl (ap (λ (s : FileSystem). at_path h s.now part) same))
-clearing_leaves h part before after (clearing.failed is) none = true_false after.unremoved (ap (λ (s : FileSystem). s.unremoved) is) none
+clearing_leaves h part before after (clearing.failed held is) none = true_false after.unremoved (ap (λ (s : FileSystem). s.unremoved) is) none
 clearing_leaves h part before after (clearing.gone was there kind removes) none = (sym removes.notes.unremoved_is ∙ none, inr removes.puts.there)
+
+-- a part that was made to be looked at is gone
+trying_leaves : {I O : Type 0} (h : Host I O) (part : List ℕ) (before after : FileSystem) → Trying h part before after → LeavesPart h part before after
+trying_leaves h part before after (well (still same)) = still_leaves h part before after same
+trying_leaves h part before after (well (gone closed t removes)) = λ none. (sym (tried_unremoved t) ∙ (sym removes.notes.unremoved_is ∙ none), removes.puts.there ∙ sym t.makes.nothing)
+trying_leaves h part before after (stays closed t is) = λ none. true_false after.unremoved (ap (λ (s : FileSystem). s.unremoved) is) none
 
 module _ {I O F E : Type 0} (h : Host I O) (e : Writer E) (part output name : List ℕ) (is : below output name ≡ part) (apart : place_of h output ≢ place_of h part) where
   way_leaves : (path : ArrayVec ℕ) → IsPart output name (Ok path) → (spared : Spared) (from : E) (before : FileSystem) (r : Result (Unit {0}) Refusal) (to : E) (after : FileSystem)
@@ -111,27 +119,33 @@ module _ {I O F E : Type 0} (h : Host I O) (e : Writer E) (part output name : Li
       clearing_leaves h part before after
       (subst (λ (x : List ℕ). Clearing h x before after) (is_part output name path p ∙ is) (way_clearing h (may_do {I = I} h) (inputs_over {I = I} h) (folders_do {F = F} h) (folders_over {F = F} h) e path.items name spared from before r to after clears))
 
-  begins_leaves : (input : List ℕ) (is_list : Bool) (continues : Bool) (spared : Spared) (from : E) (before : FileSystem) (r : Result Begun Refusal) (to : E) (after : FileSystem)
-      → Begins (may_do {I = I} h) (folders_do {F = F} h) e input is_list output name continues spared from before r to after → LeavesNoPart h part before after
-  begins_leaves input is_list continues spared from before r to after (beginning.no_output refusal has x silent) = no_part h part before after (has_leaves {F = F} h part output apart input is_list before (Err refusal) after has)
-  begins_leaves input is_list continues spared from before r to after (beginning.no_part number refusal has p x silent) = no_part h part before after (has_leaves {F = F} h part output apart input is_list before (Ok number) after has)
-  begins_leaves input is_list continues spared from before r to after (beginning.has_part number path refusal mid has p c x) =
+  use_leaves : (input : List ℕ) (is_list : Bool) (number : FolderNumber) (path : ArrayVec ℕ) → IsPart output name (Ok path) → (options : TreeOptions) (before : FileSystem) (r : Result (Unit {0}) Refusal) (after : FileSystem)
+      → ChecksUse (may_do {I = I} h) (folders_do {F = F} h) input is_list output number name path.items options before r after → LeavesPart h part before after
+  use_leaves input is_list number path p options before r after checks =
+      trying_leaves h part before after
+      (subst (λ (x : List ℕ). Trying h x before after) (is_part output name path p ∙ is) (checks_use h (may_do {I = I} h) (inputs_over {I = I} h) (folders_do {F = F} h) (folders_over {F = F} h) input is_list output number name path.items options before r after checks))
+
+  begins_leaves : (input : List ℕ) (is_list : Bool) (options : TreeOptions) (spared : Spared) (from : E) (before : FileSystem) (r : Result Begun Refusal) (to : E) (after : FileSystem)
+      → Begins (may_do {I = I} h) (folders_do {F = F} h) e input is_list output name options spared from before r to after → LeavesNoPart h part before after
+  begins_leaves input is_list options spared from before r to after (beginning.no_output refusal has x silent) = no_part h part before after (has_leaves {F = F} h part output apart input is_list before (Err refusal) after has)
+  begins_leaves input is_list options spared from before r to after (beginning.no_part number refusal has p x silent) = no_part h part before after (has_leaves {F = F} h part output apart input is_list before (Ok number) after has)
+  begins_leaves input is_list options spared from before r to after (beginning.has_part number path refusal mid has p c x) =
       first_then h part before mid after (has_leaves {F = F} h part output apart input is_list before (Ok number) mid has) (way_leaves path p spared from mid (Err refusal) to after c)
-  begins_leaves input is_list continues spared from before r to after (beginning.in_use number path refusal mid checked has p c u x) =
+  begins_leaves input is_list options spared from before r to after (beginning.in_use number path refusal mid checked has p c u x) =
       then_no_part h part before checked after (first_then h part before mid checked (has_leaves {F = F} h part output apart input is_list before (Ok number) mid has) (way_leaves path p spared from mid (Ok _) to checked c))
-      (still_leaves h part checked after (checks_use (folders_do {F = F} h) (are_quiet h) output continues checked (Err refusal) after u))
-  begins_leaves input is_list continues spared from before r to after (beginning.begun number path mid checked has p c u x) =
+      (use_leaves input is_list number path p options checked (Err refusal) after u)
+  begins_leaves input is_list options spared from before r to after (beginning.begun number path mid checked has p c u x) =
       then_no_part h part before checked after (first_then h part before mid checked (has_leaves {F = F} h part output apart input is_list before (Ok number) mid has) (way_leaves path p spared from mid (Ok _) to checked c))
-      (still_leaves h part checked after (checks_use (folders_do {F = F} h) (are_quiet h) output continues checked (Ok _) after u))
+      (use_leaves input is_list number path p options checked (Ok _) after u)
 
 -- ---- the run
 
 -- what is not begun, and that nothing is being written after a beginning
 still_none : {I O F E : Type 0} (h : Host I O) (e : Writer E) (run : TreeRun) (input : List ℕ) (is_list : Bool) (spared : Spared) (from : E) (before : FileSystem) (r : Result Begun Refusal) (to : E) (after : FileSystem) → before.written ≡ None
-    → Begins (may_do {I = I} h) (folders_do {F = F} h) e input is_list run.output.now (part_of run) run.options.continues spared from before r to after → after.written ≡ None
+    → Begins (may_do {I = I} h) (folders_do {F = F} h) e input is_list run.output.now (part_of run) run.options spared from before r to after → after.written ≡ None
 still_none {I} {O} {F} h e run input is_list spared from before r to after none b =
     let x : Leaves h (part_path run) run.output.now before after = leaves h (λ mode bytes. ⊥) (part_path run) run.output.now before after none (near (part_of run) refl)
-    (begins_by {I = I} {F = F} h e (λ mode bytes. ⊥) (part_path run) run.output.now (part_of run) refl (IsNear run.output.now) (itself refl) input is_list run.options.continues spared from before r to after b) in
+    (begins_by {I = I} {F = F} h e (λ mode bytes. ⊥) (part_path run) run.output.now (part_of run) refl (IsNear run.output.now) (itself refl) input is_list run.options spared from before r to after b) in
     x.none
 
 visits_folder_leaves : {I O F W E : Type 0} (h : Host I O) (r : Reader I) (w : Writer O) (e : Writer E) (rows : Writer W) (run : TreeRun) (path : List ℕ) (begun : Begun) (opened : F) (manifest : W) (from : E) (before : FileSystem) (status : ℕ) (left : W) (to : E)
@@ -144,12 +158,12 @@ opened_leaves : {I O F W E : Type 0} (h : Host I O) (r : Reader I) (w : Writer O
     → place_of h run.output.now ≢ place_of h (part_path run) → before.written ≡ None → DoesOpened (over {F = F} h r w e) rows run path opened manifest from before status left to after → LeavesNoPart h (part_path run) before after
 opened_leaves {I} {O} {F} h r w e rows run path opened manifest from before status left to after apart none (spec.not_begun refusal told tried b close refuses is) =
     then_no_part h (part_path run) before tried after
-    (begins_leaves {I = I} {F = F} h e (part_path run) run.output.now (part_of run) refl apart path false run.options.continues (spared_of run) from before (Err refusal) told tried b) (still_leaves h (part_path run) tried after close)
+    (begins_leaves {I = I} {F = F} h e (part_path run) run.output.now (part_of run) refl apart path false run.options (spared_of run) from before (Err refusal) told tried b) (still_leaves h (part_path run) tried after close)
 opened_leaves {I} {O} {F} h r w e rows run path opened manifest from before status left to after apart none (spec.was_begun begun told mid b v) =
     then_no_part h (part_path run) before mid after
-    (begins_leaves {I = I} {F = F} h e (part_path run) run.output.now (part_of run) refl apart path false run.options.continues (spared_of run) from before (Ok begun) told mid b)
+    (begins_leaves {I = I} {F = F} h e (part_path run) run.output.now (part_of run) refl apart path false run.options (spared_of run) from before (Ok begun) told mid b)
     (visits_folder_leaves {F = F} h r w e rows run path begun opened manifest told mid status left to after (still_none {I = I} {F = F} h e run path false (spared_of run) from before (Ok begun) told mid none b)
-    (begun_part (may_do {I = I} h) (folders_do {F = F} h) e path false run.output.now (part_of run) run.options.continues (spared_of run) from before begun told mid b) v)
+    (begun_part (may_do {I = I} h) (folders_do {F = F} h) e path false run.output.now (part_of run) run.options (spared_of run) from before begun told mid b) v)
 
 still_written : (before after : FileSystem) → after ≡ before → before.written ≡ None → after.written ≡ None
 still_written before after same none = ap (λ (s : FileSystem). s.written) same ∙ none
@@ -172,12 +186,12 @@ visits_list_leaves {I} {O} {F} h r w e rows run list begun input manifest from b
 names_leave : {I O F W E : Type 0} (h : Host I O) (r : Reader I) (w : Writer O) (e : Writer E) (rows : Writer W) (run : TreeRun) (list : List ℕ) (kind : FileKind) (input : I) (manifest : W) (from : E) (before : FileSystem) (status : ℕ) (left : W) (to : E) (after : FileSystem) (read : I)
     → place_of h run.output.now ≢ place_of h (part_path run) → before.written ≡ None → DoesNames (over {F = F} h r w e) rows run list kind input manifest from before status left to after read → LeavesNoPart h (part_path run) before after
 names_leave {I} {O} {F} h r w e rows run list kind input manifest from before status left to after read apart none (spec.not_begun refusal told b refuses l is) =
-    begins_leaves {I = I} {F = F} h e (part_path run) run.output.now (part_of run) refl apart _ true run.options.continues (spared_with run list kind) from before (Err refusal) told after b
+    begins_leaves {I = I} {F = F} h e (part_path run) run.output.now (part_of run) refl apart _ true run.options (spared_with run list kind) from before (Err refusal) told after b
 names_leave {I} {O} {F} h r w e rows run list kind input manifest from before status left to after read apart none (spec.was_begun begun told mid b v) =
     then_no_part h (part_path run) before mid after
-    (begins_leaves {I = I} {F = F} h e (part_path run) run.output.now (part_of run) refl apart _ true run.options.continues (spared_with run list kind) from before (Ok begun) told mid b)
+    (begins_leaves {I = I} {F = F} h e (part_path run) run.output.now (part_of run) refl apart _ true run.options (spared_with run list kind) from before (Ok begun) told mid b)
     (visits_list_leaves {F = F} h r w e rows run list begun input manifest told mid status left to after read (still_none {I = I} {F = F} h e run _ true (spared_with run list kind) from before (Ok begun) told mid none b)
-    (begun_part (may_do {I = I} h) (folders_do {F = F} h) e _ true run.output.now (part_of run) run.options.continues (spared_with run list kind) from before begun told mid b) v)
+    (begun_part (may_do {I = I} h) (folders_do {F = F} h) e _ true run.output.now (part_of run) run.options (spared_with run list kind) from before begun told mid b) v)
 
 in_list : {I O F W E : Type 0} (h : Host I O) (r : Reader I) (w : Writer O) (e : Writer E) (rows : Writer W) (run : TreeRun) (path : List ℕ) (manifest : W) (from : E) (before : FileSystem) (status : ℕ) (left : W) (to : E) (after : FileSystem)
     → place_of h run.output.now ≢ place_of h (part_path run) → before.written ≡ None → DoesList (over {F = F} h r w e) rows run path manifest from before status left to after → LeavesNoPart h (part_path run) before after

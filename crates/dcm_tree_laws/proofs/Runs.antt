@@ -15,6 +15,7 @@ use Rattle.dcm_walk.specs.declared.visitor.Stopped.{Stopped}
 use Rattle.dcm_walk.specs.declared.visitor.What.{What}
 use Rattle.dcm_walk.specs.declared.visitor.What.TheVariants.{File}
 use Rattle.dcm_tree_words.specs.Trees.{Source}
+use Rattle.dcm_tree_words.specs.declared.said.TreeOptions.{TreeOptions}
 use Rattle.dcm_cli.specs.Calls.{Reader}
 use Rattle.dcm_trees.specs.declared.beginning.Begun.{Begun}
 use Rattle.dcm_trees.specs.declared.progress.Shared.{Shared}
@@ -161,13 +162,13 @@ module _ {I O F W E : Type 0} (h : Host I O) (IsWhole : List Tree → ℕ → Li
 
 -- ---- the part's path
 
-pub begun_part : {S I O F E : Type 0} (may : MayDo S I O) (d : FoldersDo S O F) (e : Writer E) (input : List ℕ) (is_list : Bool) (output part : List ℕ) (continues : Bool) (spared : Spared) (from : E) (before : S) (begun : Begun) (to : E) (after : S)
-    → Begins may d e input is_list output part continues spared from before (Ok begun) to after → begun.part.items ≡ below output part
-begun_part may d e input is_list output part continues spared from before begun to after (beginning.no_output refusal has is silent) = absurd (cc)
-begun_part may d e input is_list output part continues spared from before begun to after (beginning.no_part number refusal has p is silent) = absurd (cc)
-begun_part may d e input is_list output part continues spared from before begun to after (beginning.has_part number path refusal mid has p c is) = absurd (cc)
-begun_part may d e input is_list output part continues spared from before begun to after (beginning.in_use number path refusal mid checked has p c u is) = absurd (cc)
-begun_part may d e input is_list output part continues spared from before begun to after (beginning.begun number path mid checked has p c u is) =
+pub begun_part : {S I O F E : Type 0} (may : MayDo S I O) (d : FoldersDo S O F) (e : Writer E) (input : List ℕ) (is_list : Bool) (output part : List ℕ) (options : TreeOptions) (spared : Spared) (from : E) (before : S) (begun : Begun) (to : E) (after : S)
+    → Begins may d e input is_list output part options spared from before (Ok begun) to after → begun.part.items ≡ below output part
+begun_part may d e input is_list output part options spared from before begun to after (beginning.no_output refusal has is silent) = absurd (cc)
+begun_part may d e input is_list output part options spared from before begun to after (beginning.no_part number refusal has p is silent) = absurd (cc)
+begun_part may d e input is_list output part options spared from before begun to after (beginning.has_part number path refusal mid has p c is) = absurd (cc)
+begun_part may d e input is_list output part options spared from before begun to after (beginning.in_use number path refusal mid checked has p c u is) = absurd (cc)
+begun_part may d e input is_list output part options spared from before begun to after (beginning.begun number path mid checked has p c u is) =
     ap (λ (b : Begun). b.part.items) (sym (same_ok (Ok begun) begun (record { number = number; part = path }) refl is)) ∙ is_part output part path p
 
 -- ---- a folder
@@ -187,17 +188,17 @@ at_part h IsWhole r w start run links In begun before after is goes = subst (λ 
 
 -- the folder of the outputs is made, or is there
 begin : {I O F E : Type 0} (h : Host I O) (IsWhole : List Tree → ℕ → List ℕ → Type 0) → Grows IsWhole → (e : Writer E) (start : Tree) (run : TreeRun) (input : List ℕ) (is_list : Bool) (spared : Spared) (from : E) (before : FileSystem) (result : Result Begun Refusal) (to : E) (after : FileSystem)
-    → Begins (may_do {I = I} h) (folders_do {F = F} h) e input is_list run.output.now (part_of run) run.options.continues spared from before result to after → RunCame h IsWhole (part_path run) run.output.now start before → RunCame h IsWhole (part_path run) run.output.now start after
+    → Begins (may_do {I = I} h) (folders_do {F = F} h) e input is_list run.output.now (part_of run) run.options spared from before result to after → RunCame h IsWhole (part_path run) run.output.now start before → RunCame h IsWhole (part_path run) run.output.now start after
 begin {I} {O} {F} h IsWhole grows e start run input is_list spared from before result to after b came =
     further h IsWhole grows (part_path run) (IsOfOutput run.output.now) start (part_is_within run.output.now (part_path run) run.options.part.number refl) before after came
-    (begins_by {I = I} {F = F} h e (IsWhole (trees_of before)) (part_path run) run.output.now (part_of run) refl (IsOfOutput run.output.now) (itself refl) input is_list run.options.continues spared from before result to after b)
+    (begins_by {I = I} {F = F} h e (IsWhole (trees_of before)) (part_path run) run.output.now (part_of run) refl (IsOfOutput run.output.now) (itself refl) input is_list run.options spared from before result to after b)
 
 module _ {I O F W E : Type 0} (h : Host I O) (IsWhole : List Tree → ℕ → List ℕ → Type 0) (grows : Grows IsWhole) (r : Reader I) (w : Writer O) (e : Writer E) (rows : Writer W) (start : Tree) (run : TreeRun) where
   does_opened : (path : List ℕ) (opened : F) (manifest : W) (from : E) (before : FileSystem) (status : ℕ) (left : W) (to : E) (after : FileSystem)
       → DoesOpened (over {F = F} h r w e) rows run path opened manifest from before status left to after → GoOn h Kept (IsUnder path) IsWhole r w (task_of run.task) (part_path run) run.output.now start before after
   does_opened path opened manifest from before status left to after (spec.not_begun refusal told tried b close refuses is) = λ of_output right came. still_there h IsWhole (part_path run) (IsOfOutput run.output.now) start tried after close (begin {I = I} {F = F} h IsWhole grows e start run path false (spared_of run) from before (Err refusal) told tried b came)
   does_opened path opened manifest from before status left to after (spec.was_begun begun told mid b v) = λ of_output right came.
-      at_part h IsWhole r w start run Kept (IsUnder path) begun mid after (begun_part (may_do {I = I} h) (folders_do {F = F} h) e path false run.output.now (part_of run) run.options.continues (spared_of run) from before begun told mid b)
+      at_part h IsWhole r w start run Kept (IsUnder path) begun mid after (begun_part (may_do {I = I} h) (folders_do {F = F} h) e path false run.output.now (part_of run) run.options (spared_of run) from before begun told mid b)
       (visits_folder {F = F} h IsWhole grows r w e rows start run path begun opened manifest told mid status left to after v) of_output right (begin {I = I} {F = F} h IsWhole grows e start run path false (spared_of run) from before (Ok begun) told mid b came)
 
   does_folder : (path : List ℕ) (manifest : W) (from : E) (before : FileSystem) (status : ℕ) (left : W) (to : E) (after : FileSystem)
@@ -221,7 +222,7 @@ module _ {I O F W E : Type 0} (h : Host I O) (IsWhole : List Tree → ℕ → Li
       → DoesNames (over {F = F} h r w e) rows run list kind input manifest from before status left to after read → GoOn h Followed IsLine IsWhole r w (task_of run.task) (part_path run) run.output.now start before after
   does_names list kind input manifest from before status left to after read (spec.not_begun refusal told b refuses l is) = λ of_output right came. begin {I = I} {F = F} h IsWhole grows e start run _ true (spared_with run list kind) from before (Err refusal) told after b came
   does_names list kind input manifest from before status left to after read (spec.was_begun begun told mid b v) = λ of_output right came.
-      at_part h IsWhole r w start run Followed IsLine begun mid after (begun_part (may_do {I = I} h) (folders_do {F = F} h) e _ true run.output.now (part_of run) run.options.continues (spared_with run list kind) from before begun told mid b)
+      at_part h IsWhole r w start run Followed IsLine begun mid after (begun_part (may_do {I = I} h) (folders_do {F = F} h) e _ true run.output.now (part_of run) run.options (spared_with run list kind) from before begun told mid b)
       (visits_list {F = F} h IsWhole grows r w e rows start run list begun input manifest told mid status left to after read v) of_output right (begin {I = I} {F = F} h IsWhole grows e start run _ true (spared_with run list kind) from before (Ok begun) told mid b came)
 
   does_list : (path : List ℕ) (manifest : W) (from : E) (before : FileSystem) (status : ℕ) (left : W) (to : E) (after : FileSystem)

@@ -53,7 +53,7 @@ each_adds h IsWhole part Of trees at before then after none (moved bytes path wa
     moves_add h part path trees before after (none (ap is_writing was) (λ e. not_idle bytes (sym was ∙ e))) moves adds
 each_adds h IsWhole part Of trees at before then after none (removed rest removes is) adds = one_adds trees before after before.written removes.notes adds
 each_adds h IsWhole part Of trees at before then after none (left rest same is) adds = none_adds trees before after same adds
-each_adds h IsWhole part Of trees at before then after none (not_removed rest same is) adds = subst (Adds trees) (sym same) (record { later = adds.later; are = adds.are })
+each_adds h IsWhole part Of trees at before then after none (not_removed held rest same is) adds = subst (Adds trees) (sym same) (record { later = adds.later; are = adds.are })
 
 -- ---- what is whole
 
@@ -118,8 +118,8 @@ module _ {I O : Type 0} (h : Host I O) (IsWhole : List Tree → ℕ → List ℕ
 
   pub at_first : Of part → CameTo h IsWhole part Of start (begins start)
   at_first of_output =
-      let none_yet : BothIn h (IsWhole []) part Of start idle (begins start) = after_steps h (IsWhole []) part Of start false of_output idle (begins start) (no_step refl refl) in
-      record { both = after_steps h (IsWhole (start ∷ [])) part Of start false of_output idle (begins start) (no_step refl refl); so_far = (none_yet.holds.none_half, tt) }
+      let none_yet : BothIn h (IsWhole []) part Of start idle (begins start) = after_steps h (IsWhole []) part Of start None false of_output idle (begins start) (no_step refl refl) in
+      record { both = after_steps h (IsWhole (start ∷ [])) part Of start None false of_output idle (begins start) (no_step refl refl); so_far = (none_yet.holds.none_half, tt) }
 
   pub further : Of part → (before after : FileSystem) → CameTo h IsWhole part Of start before → StepsIn h (IsWhole (trees_of before)) part Of idle before idle after → CameTo h IsWhole part Of start after
   further of_output before after came steps =

@@ -259,6 +259,6 @@ each_keeps h IsWhole part Of start of_output at before then after no_folder (rem
     as_phase h part Of start idle then after is (then_idle h part Of start at after rest (by_removal h part Of start at before after of_output removes keeps))
 each_keeps h IsWhole part Of start of_output at before then after no_folder (left rest same is) keeps =
     as_phase h part Of start idle then after is (then_idle h part Of start at after rest (as_state h part Of start at before after same keeps))
-each_keeps h IsWhole part Of start of_output at before then after no_folder (not_removed rest same is) keeps =
+each_keeps h IsWhole part Of start of_output at before then after no_folder (not_removed now rest same is) keeps =
     as_phase h part Of start idle then after is
     (then_idle h part Of start at after rest (subst (Keeps h part Of start at) (sym same) (record { stays = keeps.stays; earlier = keeps.earlier; quiet = keeps.quiet })))

@@ -1,6 +1,6 @@
 -- What a run over a tree does to a file system: these steps, one after another. New folders and outputs are at the paths of which something is so.
-use Rattle.std.proofs.Common.{◌≡◌, refl, sym, subst, ℕ, List, Bool, true, false, None}
-use Rattle.dcm_tree_laws.specs.FileSystem.{FileSystem, Host, MakesFolder, MakesFile, ClosesOutput, MakesLink, MovesWhat, Removes, at_path, HasWay}
+use Rattle.std.proofs.Common.{◌≡◌, refl, sym, subst, ℕ, List, Bool, true, false, Option, None}
+use Rattle.dcm_tree_laws.specs.FileSystem.{FileSystem, Number, Host, MakesFolder, MakesFile, ClosesOutput, MakesLink, MovesWhat, Removes, at_path, HasWay}
 use Rattle.dcm_tree_laws.proofs.Near.{IsNear}
 
 -- how far a run is with its part: nothing is done with it; it is being written, a file of this mode; or it is the whole output of a job
@@ -22,7 +22,7 @@ pub data StepIn {I O : Type 0} (h : Host I O) (IsWhole : ℕ → List ℕ → Ty
   named : (bytes path : List ℕ) → at ≡ whole bytes → Of path → MakesLink h part path before after → then ≡ at → StepIn h IsWhole part Of at before then after
   moved : (bytes path : List ℕ) → at ≡ whole bytes → Of path → (HasWay h before.now path → at_path h before.now path ≡ None) → MovesWhat h part path before after → then ≡ idle → StepIn h IsWhole part Of at before then after
   removed : is_writing at ≡ false → Removes h part before after → then ≡ idle → StepIn h IsWhole part Of at before then after
-  not_removed : is_writing at ≡ false → after ≡ record before { unremoved = true } → then ≡ idle → StepIn h IsWhole part Of at before then after
+  not_removed : (held : Option Number) → is_writing at ≡ false → after ≡ record before { held = held; unremoved = true } → then ≡ idle → StepIn h IsWhole part Of at before then after
   left : is_writing at ≡ false → after ≡ before → then ≡ idle → StepIn h IsWhole part Of at before then after
 
 pub data StepsIn {I O : Type 0} (h : Host I O) (IsWhole : ℕ → List ℕ → Type 0) (part : List ℕ) (Of : List ℕ → Type 0) (at : Phase) (before : FileSystem) : (then : Phase) → (after : FileSystem) → Type 0 where

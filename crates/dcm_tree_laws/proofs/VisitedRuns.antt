@@ -29,6 +29,7 @@ telling_over h gives = record {
   quiet = telling_quiet h gives;
   finds = λ before path links found after call. call.0;
   makes = λ before path mode r after call. call;
+  makes_as = λ before path mode r after call. call.0;
 }
 
 listing_over : {I O F : Type 0} (h : Host I O) (gives : F → List (List ℕ)) → FoldersOver h (listing h gives)
@@ -36,6 +37,7 @@ listing_over h gives = record {
   quiet = listing_quiet h gives;
   finds = λ before path links found after call. call.0.0;
   makes = λ before path mode r after call. call;
+  makes_as = λ before path mode r after call. call.0;
 }
 
 -- ---- its folder is opened

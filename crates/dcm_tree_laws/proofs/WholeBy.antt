@@ -266,7 +266,7 @@ each_holds h IsWhole part Of start at before then after (removed rest r is) hold
     as_phase h IsWhole part start idle then after is (removes h IsWhole part start at before after r holds)
 each_holds h IsWhole part Of start at before then after (left rest same is) holds =
     as_phase h IsWhole part start idle then after is (rest_state h IsWhole part start at before after same holds)
-each_holds h IsWhole part Of start at before then after (not_removed rest same is) holds =
+each_holds h IsWhole part Of start at before then after (not_removed now rest same is) holds =
     as_phase h IsWhole part start idle then after is (subst (Holds h IsWhole part start idle) (sym same) (record { none_half = holds.none_half; earlier = holds.earlier; part_at = tt }))
 
 -- the part is no folder where it is whole

@@ -1,5 +1,5 @@
 -- What a run over a tree comes to: it is refused, or the names of its tree are visited from such a state.
-use Rattle.std.specs.Prelude.{◌≡◌, ◌⊎◌, ℕ, List, Bool, false, Some, None, Ok, Err}
+use Rattle.std.specs.Prelude.{◌≡◌, ◌≢◌, ◌⊎◌, ℕ, List, Bool, false, Some, None, Ok, Err}
 use Rattle.std.specs.Str.{IsUtf8}
 use Rattle.dcm_devices.specs.declared.device.WriteFailed.{WriteFailed}
 use Rattle.dcm_devices.specs.Writing.{Writer}
@@ -22,7 +22,7 @@ use Rattle.dcm_trees.specs.Tree.{OpensTree, VisitsAll, VisitsListed, Refuses, Do
 use Rattle.dcm_trees.specs.World.{World}
 use Rattle.dcm_tree_laws.specs.Again.{over_sure}
 use Rattle.dcm_tree_laws.specs.Determined.{working}
-use Rattle.dcm_tree_laws.specs.FileSystem.{FileSystem, Host, Tree, SameBytes, begins, place_of, at_path}
+use Rattle.dcm_tree_laws.specs.FileSystem.{FileSystem, Host, Tree, number_of, begins, place_of, at_path}
 use Rattle.dcm_tree_laws.specs.Laws.{over, part_path}
 use Rattle.dcm_tree_laws.specs.Single.{as_held}
 
@@ -42,12 +42,20 @@ pub record IsCleared {I O : Type 0} (h : Host I O) (part place : List ℕ) (star
   pub kind : was.kind ≡ File
   pub gone : now.at place ≡ None
 
--- no more was done than to make that folder, and to remove what was left over: at each other place is what was there,
--- and each file has its bytes
+-- it is that of the part: a regular file is there, which was made to be looked at, and is not removed
+pub record IsTried {I O : Type 0} (h : Host I O) (part place : List ℕ) (now : Tree) : Type 0 where
+  pub of_part : place ≡ place_of h part
+  pub made : Found
+  pub is : now.at place ≡ Some made
+  pub kind : made.kind ≡ File
+
+-- no more was done than to make that folder, and to remove what was left over, or to make a part that is not removed: at
+-- each other place is what was there, and each file there has its bytes
 pub record OnlyOutput {I O : Type 0} (h : Host I O) (output part : List ℕ) (start now : Tree) : Type 0 where
-  pub names : (place : List ℕ)
-      → (now.at place ≡ start.at place) ⊎ (IsMade h output place start now ⊎ IsCleared h part place start now)
-  pub bytes : SameBytes start now
+  pub names : (place : List ℕ) → (now.at place ≡ start.at place)
+      ⊎ (IsMade h output place start now ⊎ (IsCleared h part place start now ⊎ IsTried h part place now))
+  pub bytes : (place : List ℕ) (f : Found) → place ≢ place_of h part → start.at place ≡ Some f
+      → now.bytes (number_of f) ≡ start.bytes (number_of f)
 
 -- that a part was left over is told, or nothing is
 pub data TellsLeft {E : Type 0} (e : Writer E) (part : List ℕ) (from told : E) : Type 0 where

@@ -26,16 +26,18 @@ pub record Tree : Type 0 where
   pub bytes : Number → List ℕ
 
 -- a file system as it is now; all that it was earlier, the latest first; the file that is being written, where one is:
--- it was made, and its output is not yet closed; and whether a file could not be removed
+-- it was made, and its output is not yet closed; the file that is held, where one is: it was made or locked last, and no
+-- file was removed since; and whether a file could not be removed, or not be looked at to be removed
 pub record FileSystem : Type 0 where
   pub now : Tree
   pub earlier : List Tree
   pub written : Option Number
+  pub held : Option Number
   pub unremoved : Bool
 
 -- one as a run finds it
 abbrev pub begins : Tree → FileSystem
-begins start = record { now = start; earlier = []; written = None; unremoved = false }
+begins start = record { now = start; earlier = []; written = None; held = None; unremoved = false }
 
 -- a run whose trees were these, the latest first, had this state: they are those up to it, and some later ones
 pub record WasState (trees : List Tree) (s : FileSystem) : Type 0 where
@@ -119,6 +121,7 @@ pub record MakesFolder {I O : Type 0} (h : Host I O) (path : List ℕ) (mode : �
   pub puts : Puts (place_of h path) (Some made) before.now after.now
   pub bytes : SameBytes before.now after.now
   pub notes : Notes before.written before after
+  pub held_is : after.held ≡ before.held
 
 -- where nothing is there is an empty file, which is being written
 pub record MakesFile {I O : Type 0} (h : Host I O) (path : List ℕ) (mode : ℕ) (before after : FileSystem) : Type 0 where
@@ -130,12 +133,14 @@ pub record MakesFile {I O : Type 0} (h : Host I O) (path : List ℕ) (mode : ℕ
   pub puts : Puts (place_of h path) (Some made) before.now after.now
   pub empty : Fills (number_of made) [] before.now after.now
   pub notes : Notes (Some (number_of made)) before after
+  pub held_is : after.held ≡ Some (number_of made)
 
 -- a file took bytes, and is still being written
 pub record Takes (n : Number) (bytes : List ℕ) (before after : FileSystem) : Type 0 where
   pub fills : Fills n bytes before.now after.now
   pub names : SameNames before.now after.now
   pub notes : Notes (Some n) before after
+  pub held_is : after.held ≡ before.held
 
 -- it took beginnings of all its bytes, one after another
 pub data TakesPieces (n : Number) (all : List ℕ) (before : FileSystem) : (after : FileSystem) → Type 0 where
@@ -150,6 +155,7 @@ pub record Closes (n : Number) (all kept : List ℕ) (before after : FileSystem)
   pub fills : Fills n kept last.now after.now
   pub names : SameNames last.now after.now
   pub notes : Notes None last after
+  pub held_is : after.held ≡ last.held
 
 -- an output is closed: that of the file that is being written, or else standard output
 abbrev pub ClosesOutput : Option Number → (all kept : List ℕ) → (before after : FileSystem) → Type 0
@@ -170,6 +176,7 @@ pub record MakesLink {I O : Type 0} (h : Host I O) (from to : List ℕ) (before 
   pub puts : Puts (place_of h to) (Some linked) before.now after.now
   pub bytes : SameBytes before.now after.now
   pub notes : Notes before.written before after
+  pub held_is : after.held ≡ before.held
 
 -- something is on the way to a path, at each slash of it
 abbrev pub HasWay : {I O : Type 0} → Host I O → Tree → (path : List ℕ) → Type 0
@@ -186,6 +193,7 @@ pub record Moves {I O : Type 0} (h : Host I O) (from to : List ℕ) (before afte
       → ((other ≡ place_of h from) ⊎ (other ≡ place_of h to)) ⊎ (after.now.at other ≡ before.now.at other)
   pub bytes : SameBytes before.now after.now
   pub notes : Notes before.written before after
+  pub held_is : after.held ≡ before.held
 
 -- nothing is done where both are names of one file; and what becomes of a folder is not said
 pub data MovesWhat {I O : Type 0} (h : Host I O) (from to : List ℕ) (before after : FileSystem) : Type 0 where
@@ -201,6 +209,26 @@ pub record Removes {I O : Type 0} (h : Host I O) (path : List ℕ) (before after
   pub puts : Puts (place_of h path) None before.now after.now
   pub bytes : SameBytes before.now after.now
   pub notes : Notes before.written before after
+  pub held_is : after.held ≡ None
+
+-- a file that is locked is held from then on
+abbrev pub Seizes : Result Bool Error → (before after : FileSystem) → Type 0
+Seizes (Ok true) before after = (file : Number) × (after ≡ record before { held = Some file })
+Seizes (Ok false) before after = after ≡ before
+Seizes (Err e) before after = after ≡ before
+
+-- the file that is held is at a path, a link at its end not followed
+pub record IsHeldAt {I O : Type 0} (h : Host I O) (s : FileSystem) (path : List ℕ) : Type 0 where
+  pub found : Found
+  pub is : at_path h s.now path ≡ Some found
+  pub held_is : s.held ≡ Some (number_of found)
+
+-- whether it is; what is there and cannot be looked at is told not to be, and that is noted
+pub data Holds {I O : Type 0} (h : Host I O) (path : List ℕ) (before : FileSystem) (is_held : Bool) (after : FileSystem)
+    : Type 0 where
+  held_there : is_held ≡ true → IsHeldAt h before path → after ≡ before → Holds h path before is_held after
+  not_there : is_held ≡ false → ¬ (IsHeldAt h before path) → after ≡ before → Holds h path before is_held after
+  not_seen : is_held ≡ false → after ≡ record before { unremoved = true } → Holds h path before is_held after
 
 -- ---- all calls
 
@@ -220,7 +248,8 @@ may_do h = record anything {
   stdin = λ before d after. after ≡ before;
   opens = λ before path r after. (after ≡ before) × IfOk r (λ o. HoldsFile h before.now path o.device);
   releases = λ before d after. after ≡ before;
-  seizes = λ before path r after. after ≡ before;
+  seizes = λ before path r after. Seizes r before after;
+  holds = λ before path r after. Holds h path before r after;
   stdout = λ before r after. after ≡ before;
   moves = λ before from to r after. OrFails r (MovesWhat h from to before after) before after;
   removes = λ before path r after. OrStays r (Removes h path before after) before after;

@@ -8,7 +8,7 @@ use Rattle.dcm_trees.specs.declared.beginning.Begun.{Begun}
 use Rattle.dcm_trees.specs.declared.beginning.Refusal.{Refusal}
 use Rattle.dcm_trees.specs.declared.beginning.Spared.{Spared}
 use Rattle.dcm_trees.specs.declared.run.TreeRun.{TreeRun}
-use Rattle.dcm_trees.specs.Beginning.{ClearsWay, Begins}
+use Rattle.dcm_trees.specs.Beginning.{ClearsWay, ChecksUse, Begins}
 use Rattle.dcm_walk.specs.declared.list.ListEnd.{ListEnd}
 use Rattle.dcm_walk.specs.declared.visitor.Stopped.{Stopped}
 use Rattle.dcm_trees.specs.declared.progress.Shared.{Shared}
@@ -18,6 +18,8 @@ use Rattle.dcm_trees.specs.Work.{Progress, progress, nothing_done}
 use Rattle.dcm_words.specs.declared.usage.Usage.{Usage}
 use Rattle.dcm_words.specs.declared.usage.Usage.TheVariants.{AtWord, Whole, InEdit, InElement, TooManyElements, Memory}
 use Rattle.dcm_tree_words.specs.Plans.{GivesTreeUnlessMemory}
+use Rattle.dcm_tree_words.specs.declared.said.TreeOptions.{TreeOptions}
+use Rattle.dcm_walk.specs.declared.folder.FolderNumber.{FolderNumber}
 use Rattle.dcm_tree_words.specs.Trees.{Source, meant_tree}
 use Rattle.dcm_cli.specs.Calls.{Reports}
 use Rattle.dcm_cli.specs.ErrorLines.{usage_line, usage_status}
@@ -30,10 +32,15 @@ pub clears_as : {S I O F E : Type 0} {may : MayDo S I O} {d : FoldersDo S O F} {
 clears_as {S} {I} {O} {F} {E} {may} {d} {e} {path} {other} {name} {spared} {from} {before} {r} {to} {after} is clears =
     subst (λ (p : List ℕ). ClearsWay may d e p name spared from before r to after) is clears
 
-pub begins_as : {S I O F E : Type 0} {may : MayDo S I O} {d : FoldersDo S O F} {e : Writer E} {input : List ℕ} {is_list : Bool} {output : List ℕ} {continues : Bool} {from : E} {before : S} {r : Result Begun Refusal} {to : E} {after : S} {part name other : List ℕ} {spared also : Spared}
-    → part ≡ name → name ≡ other → spared ≡ also → Begins may d e input is_list output part continues spared from before r to after → Begins may d e input is_list output other continues also from before r to after
-begins_as {S} {I} {O} {F} {E} {may} {d} {e} {input} {is_list} {output} {continues} {from} {before} {r} {to} {after} {part} {name} {other} {spared} {also} is named spares begins =
-    subst (λ (x : Spared). Begins may d e input is_list output other continues x from before r to after) spares (subst (λ (p : List ℕ). Begins may d e input is_list output p continues spared from before r to after) (is ∙ named) begins)
+pub checks_as : {S I O F : Type 0} {may : MayDo S I O} {d : FoldersDo S O F} {input : List ℕ} {is_list : Bool} {output : List ℕ} {number : FolderNumber} {part path other : List ℕ} {options : TreeOptions} {before : S} {r : Result (Unit {0}) Refusal} {after : S}
+    → path ≡ other → ChecksUse may d input is_list output number part path options before r after → ChecksUse may d input is_list output number part other options before r after
+checks_as {S} {I} {O} {F} {may} {d} {input} {is_list} {output} {number} {part} {path} {other} {options} {before} {r} {after} is checks =
+    subst (λ (p : List ℕ). ChecksUse may d input is_list output number part p options before r after) is checks
+
+pub begins_as : {S I O F E : Type 0} {may : MayDo S I O} {d : FoldersDo S O F} {e : Writer E} {input : List ℕ} {is_list : Bool} {output : List ℕ} {options : TreeOptions} {from : E} {before : S} {r : Result Begun Refusal} {to : E} {after : S} {part name other : List ℕ} {spared also : Spared}
+    → part ≡ name → name ≡ other → spared ≡ also → Begins may d e input is_list output part options spared from before r to after → Begins may d e input is_list output other options also from before r to after
+begins_as {S} {I} {O} {F} {E} {may} {d} {e} {input} {is_list} {output} {options} {from} {before} {r} {to} {after} {part} {name} {other} {spared} {also} is named spares begins =
+    subst (λ (x : Spared). Begins may d e input is_list output other options x from before r to after) spares (subst (λ (p : List ℕ). Begins may d e input is_list output p options spared from before r to after) (is ∙ named) begins)
 
 pub names_of : {S I O F W E : Type 0} {w : World S I O F E} {m : Writer W} {run : TreeRun} {list : List ℕ} {kind : FileKind} {input device : I} {manifest : W} {from : E} {before : S} {status : ℕ} {left : W} {to : E} {after : S} {read : I}
     → input ≡ device → DoesNames w m run list kind input manifest from before status left to after read → DoesNames w m run list kind device manifest from before status left to after read

@@ -16,15 +16,17 @@ use Rattle.dcm_files.specs.declared.folders.Links.TheVariants.{Kept, Followed}
 use Rattle.dcm_files.specs.declared.opened.FileKind.{FileKind}
 use Rattle.dcm_files.specs.declared.opened.FileKind.TheVariants.{Regular}
 use Rattle.dcm_names.specs.NamedLines.{named_line}
+use Rattle.dcm_tree_words.specs.declared.said.TreeOptions.{TreeOptions}
 use Rattle.dcm_walk.specs.declared.folder.FolderNumber.{FolderNumber}
 use Rattle.dcm_walk.specs.Names.{PATH_LIMIT, is_slash}
 use Rattle.dcm_cli.specs.Calls.{Reports}
 use Rattle.dcm_trees.specs.declared.beginning.Begun.{Begun}
 use Rattle.dcm_trees.specs.declared.beginning.Refusal.{Refusal}
-use Rattle.dcm_trees.specs.declared.beginning.Refusal.TheVariants.{Output, Same, OutputWithin, InputWithin, AtWork, PartThere, NotEmpty}
+use Rattle.dcm_trees.specs.declared.beginning.Refusal.TheVariants.{Output, Same, OutputWithin, InputWithin, AtWork, PartThere, NotEmpty, LettersAlike}
 use Rattle.dcm_trees.specs.declared.beginning.Spared.{Spared}
 use Rattle.dcm_trees.specs.declared.beginning.WayUp.{WayUp}
 use Rattle.dcm_trees.specs.declared.modes.NoMode.{NoMode}
+use Rattle.dcm_trees.specs.Letters.{path_in_capitals, IsOneName}
 use Rattle.dcm_trees.specs.Modes.{Modes, FindsMode}
 use Rattle.dcm_trees.specs.Place.{path_in}
 
@@ -317,11 +319,54 @@ pub data ChecksNew {S O F : Type 0} (d : FoldersDo S O F) (output : List ℕ) (b
       → ChecksNew d output before r after
   too_long : path_in output (codes ".") ≡ None → ChecksEmpty d output before r after → ChecksNew d output before r after
 
--- where no run goes on with it
-pub data ChecksUse {S O F : Type 0} (d : FoldersDo S O F) (output : List ℕ) (continues : Bool) (before : S)
+-- names that are read may differ in small and capital letters alone: those of a list, and those of a folder that is on
+-- another device
+pub data MayDiffer {S O F : Type 0} (d : FoldersDo S O F) (input : List ℕ) (is_list : Bool) (number : FolderNumber)
+    (before : S) (r : Result Bool Refusal) (after : S) : Type 0 where
+  of_list : is_list ≡ true → r ≡ Ok true → after ≡ before → MayDiffer d input is_list number before r after
+  of_folder : (read : FolderNumber) → is_list ≡ false → Numbers d input before (Ok read) after
+      → r ≡ Ok (not (read.device == number.device)) → MayDiffer d input is_list number before r after
+  not_numbered : (refusal : Refusal) → is_list ≡ false → Numbers d input before (Err refusal) after → r ≡ Err refusal
+      → MayDiffer d input is_list number before r after
+
+-- these are refused where they would be one name: where the part, which is made for that, is at its path in capital
+-- letters too
+pub data TriesLetters {S I O F : Type 0} (may : MayDo S I O) (d : FoldersDo S O F) (output part path : List ℕ)
+    (before : S) (r : Result (Unit {0}) Refusal) (after : S) : Type 0 where
+  too_long : path_in_capitals output part ≡ None → r ≡ Err Output → after ≡ before
+      → TriesLetters may d output part path before r after
+  told_apart : (capitals : List ℕ) → path_in_capitals output part ≡ Some capitals
+      → IsOneName may d path capitals before (Ok false) after → r ≡ Ok _
+      → TriesLetters may d output part path before r after
+  alike : (capitals : List ℕ) → path_in_capitals output part ≡ Some capitals
+      → IsOneName may d path capitals before (Ok true) after → r ≡ Err LettersAlike
+      → TriesLetters may d output part path before r after
+  not_tried : (capitals : List ℕ) (refusal : Refusal) → path_in_capitals output part ≡ Some capitals
+      → IsOneName may d path capitals before (Err refusal) after → r ≡ Err refusal
+      → TriesLetters may d output part path before r after
+
+pub data ChecksLetters {S I O F : Type 0} (may : MayDo S I O) (d : FoldersDo S O F) (input : List ℕ) (is_list : Bool)
+    (output : List ℕ) (number : FolderNumber) (part path : List ℕ) (before : S) (r : Result (Unit {0}) Refusal)
+    (after : S) : Type 0 where
+  may_differ : (looked : S) → MayDiffer d input is_list number before (Ok true) looked
+      → TriesLetters may d output part path looked r after
+      → ChecksLetters may d input is_list output number part path before r after
+  of_one_device : MayDiffer d input is_list number before (Ok false) after → r ≡ Ok _
+      → ChecksLetters may d input is_list output number part path before r after
+  not_seen : (refusal : Refusal) → MayDiffer d input is_list number before (Err refusal) after → r ≡ Err refusal
+      → ChecksLetters may d input is_list output number part path before r after
+
+-- where no run goes on with it no name is in it; where one does, the names that it keeps stay apart
+pub data ChecksUse {S I O F : Type 0} (may : MayDo S I O) (d : FoldersDo S O F) (input : List ℕ) (is_list : Bool)
+    (output : List ℕ) (number : FolderNumber) (part path : List ℕ) (options : TreeOptions) (before : S)
     (r : Result (Unit {0}) Refusal) (after : S) : Type 0 where
-  goes_on : continues ≡ true → r ≡ Ok _ → after ≡ before → ChecksUse d output continues before r after
-  is_new : continues ≡ false → ChecksNew d output before r after → ChecksUse d output continues before r after
+  is_new : options.continues ≡ false → ChecksNew d output before r after
+      → ChecksUse may d input is_list output number part path options before r after
+  goes_on : options.continues ≡ true → options.keeps_names ≡ false → r ≡ Ok _ → after ≡ before
+      → ChecksUse may d input is_list output number part path options before r after
+  keeps_names : options.continues ≡ true → options.keeps_names ≡ true
+      → ChecksLetters may d input is_list output number part path before r after
+      → ChecksUse may d input is_list output number part path options before r after
 
 -- the path of the part in the folder of the outputs
 pub data IsPart (output part : List ℕ) (r : Result (ArrayVec ℕ) Refusal) : Type 0 where
@@ -330,24 +375,25 @@ pub data IsPart (output part : List ℕ) (r : Result (ArrayVec ℕ) Refusal) : T
 
 -- all of it, one after the other
 pub data Begins {S I O F E : Type 0} (may : MayDo S I O) (d : FoldersDo S O F) (e : Writer E) (input : List ℕ)
-    (is_list : Bool) (output part : List ℕ) (continues : Bool) (spared : Spared) (from : E) (before : S)
+    (is_list : Bool) (output part : List ℕ) (options : TreeOptions) (spared : Spared) (from : E) (before : S)
     (r : Result Begun Refusal) (to : E) (after : S) : Type 0 where
   no_output : (refusal : Refusal) → HasOutput d input is_list output before (Err refusal) after → r ≡ Err refusal
-      → to ≡ from → Begins may d e input is_list output part continues spared from before r to after
+      → to ≡ from → Begins may d e input is_list output part options spared from before r to after
   no_part : (number : FolderNumber) (refusal : Refusal) → HasOutput d input is_list output before (Ok number) after
       → IsPart output part (Err refusal) → r ≡ Err refusal → to ≡ from
-      → Begins may d e input is_list output part continues spared from before r to after
+      → Begins may d e input is_list output part options spared from before r to after
   has_part : (number : FolderNumber) (path : ArrayVec ℕ) (refusal : Refusal) (mid : S)
       → HasOutput d input is_list output before (Ok number) mid → IsPart output part (Ok path)
       → ClearsWay may d e path.items part spared from mid (Err refusal) to after → r ≡ Err refusal
-      → Begins may d e input is_list output part continues spared from before r to after
+      → Begins may d e input is_list output part options spared from before r to after
   in_use : (number : FolderNumber) (path : ArrayVec ℕ) (refusal : Refusal) (mid checked : S)
       → HasOutput d input is_list output before (Ok number) mid → IsPart output part (Ok path)
       → ClearsWay may d e path.items part spared from mid (Ok _) to checked
-      → ChecksUse d output continues checked (Err refusal) after → r ≡ Err refusal
-      → Begins may d e input is_list output part continues spared from before r to after
+      → ChecksUse may d input is_list output number part path.items options checked (Err refusal) after → r ≡ Err refusal
+      → Begins may d e input is_list output part options spared from before r to after
   begun : (number : FolderNumber) (path : ArrayVec ℕ) (mid checked : S)
       → HasOutput d input is_list output before (Ok number) mid → IsPart output part (Ok path)
       → ClearsWay may d e path.items part spared from mid (Ok _) to checked
-      → ChecksUse d output continues checked (Ok _) after → r ≡ Ok (record { number = number; part = path })
-      → Begins may d e input is_list output part continues spared from before r to after
+      → ChecksUse may d input is_list output number part path.items options checked (Ok _) after
+      → r ≡ Ok (record { number = number; part = path })
+      → Begins may d e input is_list output part options spared from before r to after

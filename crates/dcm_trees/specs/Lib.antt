@@ -10,6 +10,7 @@ pub mod Task
 pub mod Lines
 pub mod Manner
 pub mod Part
+pub mod Letters
 pub mod Instance
 pub mod File
 pub mod Work

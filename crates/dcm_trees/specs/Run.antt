@@ -49,6 +49,7 @@ refusal_line refusals.InputWithin part = line (codes "input is within the output
 refusal_line refusals.AtWork part = work_line part
 refusal_line refusals.PartThere part = part_line part
 refusal_line refusals.NotEmpty part = line (codes "output is not empty")
+refusal_line refusals.LettersAlike part = line (codes "output does not tell small letters from capital ones")
 
 abbrev pub whole_line : (is_empty : Bool) → List ℕ
 whole_line is_empty = if is_empty then line (codes "input has no files") else []

@@ -136,12 +136,12 @@ pub record Refuses {E : Type 0} (e : Writer E) (run : TreeRun) (refusal : Refusa
 pub data DoesOpened {S I O F W E : Type 0} (w : World S I O F E) (m : Writer W) (run : TreeRun) (path : List ℕ)
     (opened : F) (manifest : W) (from : E) (before : S) (status : ℕ) (left : W) (to : E) (after : S) : Type 0 where
   not_begun : (refusal : Refusal) (told : E) (tried : S)
-      → Begins w.may w.folders w.errors path false run.output.now (part_of run) run.options.continues (spared_of run)
+      → Begins w.may w.folders w.errors path false run.output.now (part_of run) run.options (spared_of run)
       from before (Err refusal) told tried
       → w.folders.closes_folder tried opened after → Refuses w.errors run refusal told status to → left ≡ manifest
       → DoesOpened w m run path opened manifest from before status left to after
   was_begun : (begun : Begun) (told : E) (mid : S)
-      → Begins w.may w.folders w.errors path false run.output.now (part_of run) run.options.continues (spared_of run)
+      → Begins w.may w.folders w.errors path false run.output.now (part_of run) run.options (spared_of run)
       from before (Ok begun) told mid
       → VisitsFolder w m run path begun opened manifest told mid status left to after
       → DoesOpened w m run path opened manifest from before status left to after
@@ -161,12 +161,12 @@ pub data DoesNames {S I O F W E : Type 0} (w : World S I O F E) (m : Writer W) (
     (kind : FileKind) (input : I) (manifest : W) (from : E) (before : S) (status : ℕ) (left : W) (to : E) (after : S) (read : I)
     : Type 0 where
   not_begun : (refusal : Refusal) (told : E)
-      → Begins w.may w.folders w.errors (codes ".") true run.output.now (part_of run) run.options.continues
+      → Begins w.may w.folders w.errors (codes ".") true run.output.now (part_of run) run.options
       (spared_with run list kind) from before (Err refusal) told after
       → Refuses w.errors run refusal told status to → left ≡ manifest → read ≡ input
       → DoesNames w m run list kind input manifest from before status left to after read
   was_begun : (begun : Begun) (told : E) (mid : S)
-      → Begins w.may w.folders w.errors (codes ".") true run.output.now (part_of run) run.options.continues
+      → Begins w.may w.folders w.errors (codes ".") true run.output.now (part_of run) run.options
       (spared_with run list kind) from before (Ok begun) told mid
       → VisitsList w m run list begun input manifest told mid status left to after read
       → DoesNames w m run list kind input manifest from before status left to after read

@@ -4,12 +4,14 @@ ghost use Rattle.dcm_cli.specs.Calls as calls;
 ghost use Rattle.dcm_trees.specs.Beginning as spec;
 ghost use Rattle.dcm_trees.specs.Modes.{modes_as};
 
+use crate::letters::{is_one_name, path_in_capitals};
 use crate::lines::tell_text;
 use crate::modes::{Modes, new_mode};
 use crate::place::{OutputPath, path_in, was_there};
 use arrayvec::ArrayVec;
 use dcm_base::{DeviceOut, Watched};
 use dcm_files::{EntryName, FileKind, Folders, Found, FoundKind, Links, System};
+use dcm_tree_words::TreeOptions;
 use dcm_walk::FolderNumber;
 use std::str;
 
@@ -41,6 +43,8 @@ pub enum Refusal {
     PartThere,
     /// It has names in it.
     NotEmpty,
+    /// It does not tell small letters from capital ones, and names may come from a folder that does.
+    LettersAlike,
 }
 
 /// The folders that a folder is in.
@@ -482,15 +486,86 @@ fn check_new<S: Folders>(output: &[u8], system: &mut S) -> Result<(), Refusal>
     }
 }
 
-/// Refuses a folder that has a name in it, unless the run goes on with what is there.
-fn check_use<S: Folders>(output: &[u8], continues: bool, system: &mut S) -> Result<(), Refusal>
-    ensures { spec.ChecksUse S.folders_do output.now continues system.old result system.new }
+/// Whether names that are read may differ in small and capital letters alone: those of a list, and those of a folder that
+/// is on another device than the folder of the outputs.
+fn may_differ<S: Folders>(
+    input: &[u8],
+    is_list: bool,
+    number: FolderNumber,
+    system: &mut S,
+) -> Result<bool, Refusal>
+    ensures { spec.MayDiffer S.folders_do input.now is_list number system.old result system.new }
 {
-    if continues {
-        Ok(())
-    } else {
-        check_new(output, system)
+    if is_list {
+        return Ok(true);
     }
+    match number_at(input, system) {
+        Ok(read) => Ok(read.device != number.device),
+        Err(refusal) => Err(refusal),
+    }
+}
+
+/// Refuses a folder that does not tell small letters from capital ones, by the part, which is made and removed.
+fn try_letters<S: Folders>(
+    output: &[u8],
+    part: &[u8],
+    path: &[u8],
+    system: &mut S,
+) -> Result<(), Refusal>
+    ensures { spec.TriesLetters S.may_do S.folders_do output.now part.now path.now system.old result system.new }
+{
+    let Some(capitals) = path_in_capitals(output, part) else {
+        return Err(Refusal::Output);
+    };
+    match is_one_name(path, capitals.as_slice(), system) {
+        Ok(false) => Ok(()),
+        Ok(true) => Err(Refusal::LettersAlike),
+        Err(refusal) => Err(refusal),
+    }
+}
+
+/// Refuses a folder in which names that are read would be one name.
+fn check_letters<S: Folders>(
+    input: &[u8],
+    is_list: bool,
+    output: &[u8],
+    number: FolderNumber,
+    part: &[u8],
+    path: &[u8],
+    system: &mut S,
+) -> Result<(), Refusal>
+    ensures { spec.ChecksLetters S.may_do S.folders_do input.now is_list output.now number part.now path.now system.old
+        result system.new }
+{
+    match may_differ(input, is_list, number, system) {
+        Ok(true) => try_letters(output, part, path, system),
+        Ok(false) => Ok(()),
+        Err(refusal) => Err(refusal),
+    }
+}
+
+/// Refuses a folder that a run does not go on with, and that has a name in it; and one with which it goes on, where names
+/// that it keeps would be one name there.
+fn check_use<S: Folders>(
+    input: &[u8],
+    is_list: bool,
+    output: &[u8],
+    number: FolderNumber,
+    part: &[u8],
+    path: &[u8],
+    options: TreeOptions,
+    system: &mut S,
+) -> Result<(), Refusal>
+    ensures { spec.ChecksUse S.may_do S.folders_do input.now is_list output.now number part.now path.now options
+        system.old result system.new }
+{
+    if !options.continues {
+        return check_new(output, system);
+    }
+    if options.keeps_names {
+        return check_letters(input, is_list, output, number, part, path, system);
+    }
+    Ok(())
 }
 
 /// What a run knows of the folder of its outputs.
@@ -519,17 +594,26 @@ pub fn begin<S: Folders, E: DeviceOut>(
     is_list: bool,
     output: &[u8],
     part: &[u8],
-    continues: bool,
+    options: TreeOptions,
     spared: Spared,
     system: &mut S,
     errors: &mut Watched<E>,
 ) -> Result<Begun, Refusal>
-    ensures { spec.Begins S.may_do S.folders_do E.DeviceOut input.now is_list output.now part.now continues spared
+    ensures { spec.Begins S.may_do S.folders_do E.DeviceOut input.now is_list output.now part.now options spared
         errors.old system.old result errors.new system.new }
 {
     let number = have_output(input, is_list, output, system)?;
     let path = part_in(output, part)?;
     clear_way(path.as_slice(), part, spared, system, errors)?;
-    check_use(output, continues, system)?;
+    check_use(
+        input,
+        is_list,
+        output,
+        number,
+        part,
+        path.as_slice(),
+        options,
+        system,
+    )?;
     Ok(Begun { number, part: path })
 }

@@ -13,6 +13,7 @@ mod beginning;
 mod fate;
 mod file;
 mod instance;
+mod letters;
 mod lines;
 mod modes;
 mod part;

@@ -41,7 +41,7 @@ enum Way {
 
 /// It cannot be looked at.
 #[derive(Clone, Copy, Debug, PartialEq, Eq)]
-struct Unseen;
+pub(crate) struct Unseen;
 
 /// A folder on the way of an output is not there, and cannot be made.
 #[derive(Clone, Copy, Debug, PartialEq, Eq)]
@@ -68,7 +68,7 @@ pub fn path_in(output: &[u8], name: &[u8]) -> Option<OutputPath>
 }
 
 /// What is at a path, links not followed.
-fn look<S: Folders>(path: &[u8], system: &mut S) -> Result<Option<Found>, Unseen>
+pub(crate) fn look<S: Folders>(path: &[u8], system: &mut S) -> Result<Option<Found>, Unseen>
     ensures { spec.Looks S.folders_do path.now system.old result system.new }
 {
     let Ok(text) = str::from_utf8(path) else {

@@ -85,6 +85,12 @@ pub fn tell_refusal<E: DeviceOut>(refusal: Refusal, part: &[u8], errors: &mut Wa
         Refusal::AtWork => tell_at_work(part, errors),
         Refusal::PartThere => tell_part_there(part, errors),
         Refusal::NotEmpty => tell_line(b"output is not empty", errors),
+        Refusal::LettersAlike => {
+            tell_line(
+                b"output does not tell small letters from capital ones",
+                errors,
+            )
+        }
     }
     DEVICE
 }

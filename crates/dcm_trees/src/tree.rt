@@ -205,13 +205,12 @@ fn do_opened<S: Folders, W: DeviceOut, E: DeviceOut>(
     ensures within { result.0 ≤ statuses.MEMORY }
 {
     let part = part_name(run.options.part.number);
-    let continues = run.options.continues;
     match begin(
         path,
         false,
         run.output,
         part.as_slice(),
-        continues,
+        run.options,
         spared_of(run),
         system,
         errors,
@@ -262,13 +261,12 @@ fn do_names<S: Folders, W: DeviceOut, E: DeviceOut>(
     ensures within { result.0 ≤ statuses.MEMORY }
 {
     let part = part_name(run.options.part.number);
-    let continues = run.options.continues;
     match begin(
         CURRENT,
         true,
         run.output,
         part.as_slice(),
-        continues,
+        run.options,
         spared_with(run, list, kind),
         system,
         errors,

@@ -7,6 +7,7 @@ mod failing;
 mod faults;
 mod instances;
 mod left_out;
+mod letters;
 mod lists;
 mod long;
 mod modes;
@@ -65,6 +66,16 @@ fn folders_within_one_another(rt: HostRuntime) -> Result<(), Fail> {
 #[test]
 fn parts_of_other_runs(rt: HostRuntime) -> Result<(), Fail> {
     expect_rows(rt.alloc(), &apart::OTHERS)
+}
+
+#[test]
+fn outputs_that_tell_no_letters(rt: HostRuntime) -> Result<(), Fail> {
+    expect_rows(rt.alloc(), &letters::ALIKE_LETTERS)
+}
+
+#[test]
+fn outputs_that_tell_letters(rt: HostRuntime) -> Result<(), Fail> {
+    expect_rows(rt.alloc(), &letters::LETTERS_APART)
 }
 
 #[test]
