@@ -28,6 +28,10 @@ pub struct TreeDevices {
     pub umask: u32,
     /// Whether a file may get a second name.
     pub has_links: bool,
+    /// Whether the system says of each second name that something has it.
+    pub says_named: bool,
+    /// A path at which another process makes a file before it becomes a second name.
+    pub raced: &'static str,
     /// Whether a file may be locked.
     pub has_locks: bool,
     /// Whether names that differ in small and capital letters alone are two names.
@@ -54,6 +58,8 @@ pub const SOUND: TreeDevices = TreeDevices {
     closings: ALL,
     umask: 0o022,
     has_links: true,
+    says_named: false,
+    raced: "",
     has_locks: true,
     tells_letters: true,
     elsewhere: "",

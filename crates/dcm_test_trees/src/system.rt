@@ -16,6 +16,9 @@ use std::{io, mem};
 /// The bits of a new file's mode where nothing else is said.
 const USUAL_MODE: u32 = 0o666;
 
+/// The bytes of an output of another process.
+const OF_ANOTHER: &[u8] = b"x";
+
 /// Who may read, write and run a file.
 const MODE_BITS: u32 = 0o777;
 
@@ -186,16 +189,21 @@ impl MemoryTree {
         Ok(self.output(number))
     }
 
+    /// Makes a file of another process.
+    fn make_of_another(&mut self, path: &str, bytes: &[u8]) -> io::Result<()> {
+        let place = self.free_place(path)?;
+        let file = Node::file(self.alloc, bytes, USUAL_MODE & !self.devices.umask)?;
+        self.tree.add(place.folder, place.text.as_slice(), file)?;
+        Ok(())
+    }
+
     /// Counts a file that is to be made. Where none more may be, another process makes it first.
     fn intrude(&mut self, path: &str) -> io::Result<()> {
         if self.devices.files > 0 {
             self.devices.files -= 1;
             return Ok(());
         }
-        let place = self.free_place(path)?;
-        let file = Node::File(Vec::new(self.alloc), USUAL_MODE & !self.devices.umask);
-        self.tree.add(place.folder, place.text.as_slice(), file)?;
-        Ok(())
+        self.make_of_another(path, b"")
     }
 
     /// Counts a file that is to be made, for which there has to be memory.
@@ -426,7 +434,13 @@ impl Folders for MemoryTree {
 
     fn link(&mut self, from: &str, to: &str) -> io::Result<()> {
         let number = self.file_number(from)?;
+        if to == self.devices.raced {
+            self.make_of_another(to, OF_ANOTHER)?;
+        }
         let place = self.free_place(to)?;
+        if self.devices.says_named {
+            return Err(taken());
+        }
         if !self.devices.has_links {
             return Err(io::Error::from(ErrorKind::Unsupported));
         }

@@ -96,7 +96,8 @@ second_gone : {I O F : Type 0} {h : Host I O} {IsWhole : ℕ → List ℕ → Ty
 second_gone path base some r naming (spec.no_part_text t is same) was = not_moved naming Failed is refl was
 second_gone path base some r naming (spec.no_text t u is same) was = not_moved naming Failed is refl was
 second_gone path base some r naming (spec.linked t u call is) was = not_moved naming Linked is refl was
-second_gone {I} {O} {F} path base some r naming (spec.not_linked e tried t u call m) was = if_free_gone {I = I} {F = F} path base some (then_steps r (quiet call)) naming m was
+second_gone path base some r naming (spec.was_there e tried t u call k (spec.found place f is)) was = not_moved naming (NotFree place) is refl was
+second_gone {I} {O} {F} path base some r naming (spec.not_linked e tried t u call k m) was = if_free_gone {I = I} {F = F} path base some (then_steps r (quiet call)) naming m was
 
 pub name_gone : {I O F : Type 0} {modes : Modes} {h : Host I O} {IsWhole : ℕ → List ℕ → Type 0} {part output bytes : List ℕ} {start s after : FileSystem} (path relative : List ℕ) → path ≡ below output relative → IsReady h IsWhole part output bytes start s → (naming : Naming)
     → GivesName (may_do {I = I} h) (folders_do {F = F} h) modes part path (length output + 1) s naming after → is_moved naming ≡ true → IsGone h part after

@@ -12,7 +12,8 @@ use Rattle.dcm_files.specs.declared.folders.Found.{Found}
 use Rattle.dcm_files.specs.declared.folders.FoundKind.{FoundKind}
 use Rattle.dcm_files.specs.declared.folders.FoundKind.TheVariants as kinds
 use Rattle.dcm_files.specs.declared.folders.Links.TheVariants.{Followed}
-use Rattle.dcm_tree_laws.proofs.Placing.{same_place}
+use Rattle.dcm_tree_laws.proofs.Placing as placing
+use Rattle.dcm_tree_laws.proofs.Placing.{same_place, gives_freed}
 use Rattle.dcm_tree_laws.proofs.VisitedBy.{inner_way}
 use Rattle.dcm_walk.specs.List.{IsSlash}
 use Rattle.dcm_walk.specs.Names.{below, is_slash, PATH_LIMIT}
@@ -167,7 +168,8 @@ module _ {I O : Type 0} (F : Type 0) (h : Host I O) (r : Reader I) (w : Writer O
   met_second s naming named there (parts.no_part_text t is same) = absurd (not_failed naming spots.There there is)
   met_second s naming named there (parts.no_text t u is same) = absurd (not_failed naming spots.There there is)
   met_second s naming named there (parts.linked t u call is) = absurd (not_free naming spots.There there is)
-  met_second s naming named there (parts.not_linked e tried t u call moves) = met_moving tried naming named there moves
+  met_second s naming named there (parts.was_there e tried t u call k (parts.found place f is)) = met_by_looking tried place naming named there is f
+  met_second s naming named there (parts.not_linked e tried t u call k moves) = met_moving tried naming named there moves
 
   met : {modes : Modes} (s : FileSystem) (naming : Naming) (named : FileSystem) → naming ≡ NotFree spots.There → GivesFreeName (working_may h r w (may_do h)) (working_folders h (sure (folders_do {F = F} h))) modes part path base s naming named → FileThere F h path base named
   met s naming named there (instance.not_free place f nf is) = met_by_looking s place naming named there is f
@@ -181,21 +183,21 @@ abbrev pub MetBytes : (alike : Bool) → (held its : List ℕ) → Type 0
 MetBytes true held its = its ≡ held
 MetBytes false held its = length held ≤ INPUT_LIMIT → its ≢ held
 
-there_naming : (alike : Bool) (naming : Naming) (fate : Fate) (same : Bool) → is_written fate ≡ true → naming_fate naming fate same ≡ met_fate alike → (naming ≡ NotFree spots.There) × (same ≡ alike)
-there_naming true Linked fate same written e = true_false (is_written fate) written (ap is_written e)
-there_naming true Moved fate same written e = true_false (is_written fate) written (ap is_written e)
-there_naming true (NotFree spots.There) fate true written e = (refl, refl)
-there_naming true (NotFree spots.There) fate false written e = absurd (cc)
-there_naming true (NotFree spots.Barred) fate same written e = absurd (cc)
-there_naming true (NotFree spots.Free) fate same written e = absurd (cc)
-there_naming true Failed fate same written e = absurd (cc)
-there_naming false Linked fate same written e = true_false (is_written fate) written (ap is_written e)
-there_naming false Moved fate same written e = true_false (is_written fate) written (ap is_written e)
-there_naming false (NotFree spots.There) fate true written e = absurd (cc)
-there_naming false (NotFree spots.There) fate false written e = (refl, refl)
-there_naming false (NotFree spots.Barred) fate same written e = absurd (cc)
-there_naming false (NotFree spots.Free) fate same written e = absurd (cc)
-there_naming false Failed fate same written e = absurd (cc)
+there_naming : (alike : Bool) (naming : Naming) (fate : Fate) (same : Bool) → is_written fate ≡ true → naming_fate naming fate same ≡ met_fate alike → (naming ≡ NotFree spots.Free → ⊥) → (naming ≡ NotFree spots.There) × (same ≡ alike)
+there_naming true Linked fate same written e freed = true_false (is_written fate) written (ap is_written e)
+there_naming true Moved fate same written e freed = true_false (is_written fate) written (ap is_written e)
+there_naming true (NotFree spots.There) fate true written e freed = (refl, refl)
+there_naming true (NotFree spots.There) fate false written e freed = absurd (cc)
+there_naming true (NotFree spots.Barred) fate same written e freed = absurd (cc)
+there_naming true (NotFree spots.Free) fate same written e freed = absurd (cc)
+there_naming true Failed fate same written e freed = absurd (cc)
+there_naming false Linked fate same written e freed = true_false (is_written fate) written (ap is_written e)
+there_naming false Moved fate same written e freed = true_false (is_written fate) written (ap is_written e)
+there_naming false (NotFree spots.There) fate true written e freed = absurd (cc)
+there_naming false (NotFree spots.There) fate false written e freed = (refl, refl)
+there_naming false (NotFree spots.Barred) fate same written e freed = absurd (cc)
+there_naming false (NotFree spots.Free) fate same written e freed = absurd (freed refl)
+there_naming false Failed fate same written e freed = absurd (cc)
 
 module _ {I O E : Type 0} (F : Type 0) (h : Host I O) (r : Reader I) (w : Writer O) (e : Writer E) (all : GivesAll h (as_whole h r) w) (m : Manner) (text : IsUtf8 m.part) (leads : h.leads Followed m.part ≡ place_of h m.part) where
   by_answer : (path : List ℕ) (s : FileSystem) (same alike : Bool) (after : FileSystem) → same ≡ alike → ComparesFiles (working_may h r w (may_do h)) (as_whole h r) m.part path s same after → IsUtf8 path → (f : FileAt h Followed s.now m.part) → (g : FileAt h Followed s.now path)
@@ -216,7 +218,9 @@ module _ {I O E : Type 0} (F : Type 0) (h : Host I O) (r : Reader I) (w : Writer
   placed_met alike name relative held fate from start s became to after fits is_ready apart follows written is p =
       let path : List ℕ = below m.output relative in
       let IsHeld : ℕ → List ℕ → Type 0 = λ mode bytes. bytes ≡ held in
-      let naming : (p.naming ≡ NotFree spots.There) × (p.same ≡ alike) = there_naming alike p.naming fate p.same written (sym p.becomes ∙ is) in
+      let has : Ready h IsHeld m.part s.now = ready is_ready in
+      let gives : placing.Gives h m.part path (length m.output + 1) s p.naming p.named = placing.gives F h r w m.part path (length m.output + 1) text has.file s p.naming p.named has.is p.gives in
+      let naming : (p.naming ≡ NotFree spots.There) × (p.same ≡ alike) = there_naming alike p.naming fate p.same written (sym p.becomes ∙ is) (gives_freed h m.part path (length m.output + 1) s p.naming p.named gives) in
       let steps : Steps h IsHeld m.part m.output (whole held) s (whole held) p.named =
       subst (λ (x : Naming). Steps h IsHeld m.part m.output (whole held) s (phase_of held x) p.named) naming.0 (gives_free {I = I} {F = F} h IsHeld m.part m.output held path relative refl s p.naming p.named
       (works.gives_free (working_may h r w (may_do h)) (may_do h) (working_also h r w) (working_folders h (sure (folders_do {F = F} h))) (folders_do {F = F} h) (working_can {F = F} h) m.part path (length m.output + 1) s p.naming p.named p.gives)) in

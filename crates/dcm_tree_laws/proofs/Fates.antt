@@ -174,7 +174,9 @@ module _ {I O F : Type 0} (h : Host I O) (r : Reader I) (w : Writer O) (k : Mann
   is_linked IsWhole base start before naming after i free (parts.no_part_text t x same) = absurd (t part_text)
   is_linked IsWhole base start before naming after i free (parts.no_text t u x same) = absurd (u (subst IsUtf8 (sym is) free.text))
   is_linked IsWhole base start before naming after i free (parts.linked t u call x) = x
-  is_linked IsWhole base start before naming after i free (parts.not_linked x tried t u call m) =
+  is_linked IsWhole base start before naming after i free (parts.was_there x tried t u call kind again) =
+      absurd (call.1 (λ none. none_or_some (at_path h before.now k.part) (ready i).file none (ready i).is) (ap (λ (p : List ℕ). at_path h before.now p) is ∙ free.nothing))
+  is_linked IsWhole base start before naming after i free (parts.not_linked x tried t u call kind m) =
       absurd (call.1 (λ none. none_or_some (at_path h before.now k.part) (ready i).file none (ready i).is) (ap (λ (p : List ℕ). at_path h before.now p) is ∙ free.nothing))
 
   pub gets_name : {modes : Modes} (IsWhole : ℕ → List ℕ → Type 0) (start before : FileSystem) (naming : Naming) (after : FileSystem) → IsReady h IsWhole k.part k.output bytes start before → IsFree h k.output relative before.now

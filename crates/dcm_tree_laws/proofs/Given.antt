@@ -116,7 +116,8 @@ second_named : {I O F : Type 0} {h : Host I O} {IsWhole : ℕ → List ℕ → T
 second_named path base some r naming (spec.no_part_text t is same) named = not_named naming Failed is refl named
 second_named path base some r naming (spec.no_text t u is same) named = not_named naming Failed is refl named
 second_named path base some r naming (spec.linked t u call is) named = linked_out path u r call
-second_named {I} {O} {F} path base some r naming (spec.not_linked e tried t u call m) named = if_free_named {I = I} {F = F} path base some u (then_steps r (quiet call)) naming m named
+second_named path base some r naming (spec.was_there e tried t u call k (spec.found place f is)) named = not_named naming (NotFree place) is refl named
+second_named {I} {O} {F} path base some r naming (spec.not_linked e tried t u call k m) named = if_free_named {I = I} {F = F} path base some u (then_steps r (quiet call)) naming m named
 
 pub name_given : {I O F : Type 0} {modes : Modes} {h : Host I O} {IsWhole : ℕ → List ℕ → Type 0} {part output bytes : List ℕ} {start s after : FileSystem} (path relative : List ℕ) → path ≡ below output relative → IsReady h IsWhole part output bytes start s → (naming : Naming)
     → GivesName (may_do {I = I} h) (folders_do {F = F} h) modes part path (length output + 1) s naming after → is_named naming ≡ true → NewOutput h IsWhole part output path start.now after.now

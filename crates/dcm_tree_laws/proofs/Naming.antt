@@ -1,5 +1,5 @@
 -- A part gets the name of an output, and is removed.
-use Rattle.std.proofs.Common.{◌≡◌, refl, sym, subst, ℕ, ◌+◌, ◌<◌, List, length, true, false, None, Ok, Err, arith}
+use Rattle.std.proofs.Common.{◌≡◌, ◌∙◌, refl, sym, subst, ℕ, ◌+◌, ◌<◌, List, length, true, false, None, Ok, Err, arith}
 use Rattle.dcm_walk.specs.Names.{below}
 use Rattle.dcm_trees.specs.declared.part.Naming.{Naming}
 use Rattle.dcm_trees.specs.declared.part.Naming.TheVariants.{Linked, Moved, NotFree, Failed}
@@ -49,7 +49,9 @@ pub gives_second : {I O F : Type 0} (h : Host I O) (IsWhole : ℕ → List ℕ �
 gives_second h IsWhole part Of bytes path to base some before naming after (spec.no_part_text t is same) = by_naming bytes naming Failed is (quiet same)
 gives_second h IsWhole part Of bytes path to base some before naming after (spec.no_text t u is same) = by_naming bytes naming Failed is (quiet same)
 gives_second h IsWhole part Of bytes path to base some before naming after (spec.linked t u call is) = by_naming bytes naming Linked is (one (named bytes path refl to call refl))
-gives_second {I} {O} {F} h IsWhole part Of bytes path to base some before naming after (spec.not_linked e tried t u call m) =
+gives_second {I} {O} {F} h IsWhole part Of bytes path to base some before naming after (spec.was_there e tried t u call k (spec.found place f is)) =
+    by_naming bytes naming (NotFree place) is (quiet (finds (folders_do {F = F} h) (are_quiet h) path base tried place after f ∙ call))
+gives_second {I} {O} {F} h IsWhole part Of bytes path to base some before naming after (spec.not_linked e tried t u call k m) =
     goes_on (quiet call) (moves_if_free {I = I} {F = F} h IsWhole part Of bytes path to base some tried naming after m)
 
 pub gives_name_in : {I O F : Type 0} {modes : Modes} (h : Host I O) (IsWhole : ℕ → List ℕ → Type 0) (part : List ℕ) (Of : List ℕ → Type 0) (bytes path : List ℕ) (base : ℕ) → 0 < base → Leads Of path base → (before : FileSystem) (naming : Naming) (after : FileSystem)

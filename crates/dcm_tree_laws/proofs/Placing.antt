@@ -80,7 +80,10 @@ module _ {I O : Type 0} (F : Type 0) (h : Host I O) (r : Reader I) (w : Writer O
   gives_second f s mid naming after has made (parts.no_part_text lacks is same) = absurd (lacks text)
   gives_second f s mid naming after has made (parts.no_text t lacks is same) = no_text refl lacks is same
   gives_second f s mid naming after has made (parts.linked t fits call is) = linked refl fits call.0 is
-  gives_second f s mid naming after has made (parts.not_linked e tried t fits call moves) = moves_if_free f s mid tried naming after made fits (call.1 has) call.0 moves
+  gives_second f s mid naming after has made (parts.was_there e tried t fits call k (parts.found p finds is)) =
+      let stand : Stands h mid.now path base p = subst (λ (x : FileSystem). Stands h x.now path base p) call.0 (stands {F = F} h path base tried p after finds) in
+      was_there p refl fits (call.1 has) stand is (looking.finds (calls_of F h) (calls_quiet F h) path base tried p after finds ∙ call.0)
+  gives_second f s mid naming after has made (parts.not_linked e tried t fits call k moves) = moves_if_free f s mid tried naming after made fits (call.1 has) call.0 moves
 
   gives_name : {modes : Modes} (f : Found) (p : Place) (s : FileSystem) (naming : Naming) (after : FileSystem) → at_path h s.now part ≡ Some f → Stands h s.now path base p → is_free p ≡ true → GivesName (working_may h r w (may_do h)) (calls_of F h) modes part path base s naming after → Gives h part path base s naming after
   gives_name f p s naming after at stand nf (parts.no_way e makes is) = was_free p false after stand nf (paves {F = F} h path base s (Err e) after makes) (no_way refl is refl)
@@ -131,6 +134,18 @@ there_is (NotFree place.Barred) e = absurd (cc)
 
 pub same_place : (p q : Place) → NotFree p ≡ NotFree q → p ≡ q
 same_place p q e = cc
+
+-- where nothing else changes the file system, what has the name stays
+lands_freed : {I O : Type 0} (h : Host I O) (part path : List ℕ) (base : ℕ) (has : Bool) (s mid : FileSystem) (naming : Naming) (after : FileSystem) → Paves h path has mid base s → LandsPart h part path base has mid naming after → naming ≡ NotFree place.Free → ⊥
+lands_freed h part path base has s mid naming after made (no_way n is same) free = absurd (cc)
+lands_freed h part path base has s mid naming after made (no_text n t is same) free = absurd (cc)
+lands_freed h part path base has s mid naming after made (linked n t l is) free = absurd (cc)
+lands_freed h part path base has s mid naming after made (was_there p n t some stand is same) free =
+    not_free_there h path base s mid p (subst (λ (b : Bool). Paves h path b mid base s) n made) t some stand (ap is_free (same_place p place.Free (sym is ∙ free)))
+
+pub gives_freed : {I O : Type 0} (h : Host I O) (part path : List ℕ) (base : ℕ) (s : FileSystem) (naming : Naming) (after : FileSystem) → Gives h part path base s naming after → naming ≡ NotFree place.Free → ⊥
+gives_freed h part path base s naming after (not_free p stand nf is same) free = true_false (is_free p) (ap is_free (same_place p place.Free (sym is ∙ free))) nf
+gives_freed h part path base s naming after (was_free p has mid stand nf made lands) free = lands_freed h part path base has s mid naming after made lands free
 
 not_there : {A : Type 0} (naming other : Naming) → naming ≡ other → naming ≡ NotFree place.There → other ≢ NotFree place.There → A
 not_there naming other is there not = absurd (not (sym is ∙ there))

@@ -197,7 +197,9 @@ module _ {I O F : Type 0} (h : Host I O) (IsWhole : ℕ → List ℕ → Type 0)
   second naming base start before after r (parts.no_part_text t n same) = still h part output relative (is_named naming ≡ true) before after same
   second naming base start before after r (parts.no_text t u n same) = still h part output relative (is_named naming ≡ true) before after same
   second naming base start before after r (parts.linked t u call n) = linked h part output relative (is_named naming ≡ true) (named_by naming Linked n refl) path is before after call
-  second naming base start before after r (parts.not_linked e tried t u call m) =
+  second naming base start before after r (parts.was_there e tried t u call k (parts.found place f n)) =
+      still h part output relative (is_named naming ≡ true) before after (finds (folders_do {F = F} h) (are_quiet h) path base tried place after f ∙ call)
+  second naming base start before after r (parts.not_linked e tried t u call k m) =
       then_touches h part output relative (is_named naming ≡ true) before.now tried.now after.now (still h part output relative (is_named naming ≡ true) before tried call) (if_free naming base start tried after (then_steps r (quiet call)) m)
 
   pub gives : {modes : Modes} (naming : Naming) (start before after : FileSystem) → IsReady h IsWhole part output bytes start before → GivesName (may_do {I = I} h) (folders_do {F = F} h) modes part path (length output + 1) before naming after

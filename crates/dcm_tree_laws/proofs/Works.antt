@@ -137,7 +137,8 @@ module _ {S I O F : Type 0} (may more : MayDo S I O) (also : Allows may more) (d
   gives_second part path base before naming after (parts.no_part_text t is same) = parts.no_part_text t is same
   gives_second part path base before naming after (parts.no_text t u is same) = parts.no_text t u is same
   gives_second part path base before naming after (parts.linked t u call is) = parts.linked t u (can.link before part path _ after call) is
-  gives_second part path base before naming after (parts.not_linked x tried t u call m) = parts.not_linked x tried t u (can.link before part path _ tried call) (moves_if_free part path base tried naming after m)
+  gives_second part path base before naming after (parts.was_there x tried t u call k (parts.found place f is)) = parts.was_there x tried t u (can.link before part path _ tried call) k (parts.found place (finds d e can.sees path base tried place after f) is)
+  gives_second part path base before naming after (parts.not_linked x tried t u call k m) = parts.not_linked x tried t u (can.link before part path _ tried call) k (moves_if_free part path base tried naming after m)
 
   pub gives_name : {modes : Modes} (part path : List ℕ) (base : ℕ) (before : S) (naming : Naming) (after : S) → GivesName may d modes part path base before naming after → GivesName more e modes part path base before naming after
   gives_name part path base before naming after (parts.no_way x m n) = parts.no_way x (makes_way d e can path base before (Err x) after m) n

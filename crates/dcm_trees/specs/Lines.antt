@@ -1,5 +1,5 @@
 -- What is told of a file of a tree, and what became of it.
-use Rattle.std.specs.Prelude.{ℕ, zero, suc, ◌/◌, ◌%◌, ◌==◌, List, [], ◌++◌, codes, Bool, if◌then◌else◌}
+use Rattle.std.specs.Prelude.{ℕ, zero, suc, ◌/◌, ◌%◌, ◌==◌, List, [], ◌++◌, codes, Bool, false, if◌then◌else◌}
 use Rattle.dcm_names.specs.NamedLines.{emptied_lines, named_line, nobody_lines, fault_line, unread_line}
 use Rattle.dcm_names.specs.NamedLines.{unplaced_line, unopened_line}
 use Rattle.dcm_cli.specs.declared.ending.Ending.{Ending}
@@ -89,10 +89,11 @@ barred_line name = named_line name (codes "output cannot be opened")
 abbrev pub there_lines : (name : List ℕ) → (continues : Bool) → List ℕ
 there_lines name continues = if continues then [] else named_line name (codes "output is there already")
 
+-- what is free was there before
 abbrev pub place_lines : (name : List ℕ) → Place → (continues : Bool) → List ℕ
 place_lines name There continues = there_lines name continues
 place_lines name Barred continues = barred_line name
-place_lines name Free continues = barred_line name
+place_lines name Free continues = there_lines name false
 
 abbrev pub there_fate : (continues : Bool) → Fate
 there_fate continues = if continues then fates.There else fates.Taken
@@ -100,4 +101,4 @@ there_fate continues = if continues then fates.There else fates.Taken
 abbrev pub place_fate : Place → (continues : Bool) → Fate
 place_fate There continues = there_fate continues
 place_fate Barred continues = fates.Unwritten
-place_fate Free continues = fates.Unwritten
+place_fate Free continues = fates.Taken

@@ -98,7 +98,13 @@ pub data MovesIfFree {S I O F : Type 0} (may : MayDo S I O) (d : FoldersDo S O F
   free : (place : Place) (looked : S) → Finds d path base before place looked → is_free place ≡ true
       → MovesPart may part path looked naming after → MovesIfFree may d part path base before naming after
 
--- the part gets a second name; or it is moved, where the file system has none
+-- what was said to be there is looked at
+pub data LooksAgain {S O F : Type 0} (d : FoldersDo S O F) (path : List ℕ) (base : ℕ) (before : S) (naming : Naming)
+    (after : S) : Type 0 where
+  found : (place : Place) → Finds d path base before place after → naming ≡ NotFree place
+      → LooksAgain d path base before naming after
+
+-- the part gets a second name; or something has it; or it is moved, where the file system has none
 pub data GivesSecondName {S I O F : Type 0} (may : MayDo S I O) (d : FoldersDo S O F) (part path : List ℕ) (base : ℕ)
     (before : S) (naming : Naming) (after : S) : Type 0 where
   no_part_text : ¬ (IsUtf8 part) → naming ≡ Failed → after ≡ before
@@ -107,8 +113,11 @@ pub data GivesSecondName {S I O F : Type 0} (may : MayDo S I O) (d : FoldersDo S
       → GivesSecondName may d part path base before naming after
   linked : IsUtf8 part → IsUtf8 path → d.links before part path (Ok _) after → naming ≡ Linked
       → GivesSecondName may d part path base before naming after
+  was_there : (e : Error) (tried : S) → IsUtf8 part → IsUtf8 path → d.links before part path (Err e) tried
+      → error_kind e ≡ AlreadyExists → LooksAgain d path base tried naming after
+      → GivesSecondName may d part path base before naming after
   not_linked : (e : Error) (tried : S) → IsUtf8 part → IsUtf8 path → d.links before part path (Err e) tried
-      → MovesIfFree may d part path base tried naming after
+      → error_kind e ≢ AlreadyExists → MovesIfFree may d part path base tried naming after
       → GivesSecondName may d part path base before naming after
 
 -- the folders on the way are made first

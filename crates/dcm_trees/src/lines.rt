@@ -195,8 +195,8 @@ pub fn tell_no_days<E: DeviceOut>(name: &[u8], cause: NoDays, errors: &mut Watch
     }
 }
 
-/// Tells that the name of an output is not free, unless the run goes on with what is there; and answers what became of
-/// its file.
+/// Tells that the name of an output is not free, or was not, unless the run goes on with what is there; and answers what
+/// became of its file.
 pub fn tell_place<E: DeviceOut>(
     name: &[u8],
     place: Place,
@@ -208,11 +208,11 @@ pub fn tell_place<E: DeviceOut>(
 {
     match place {
         Place::There if continues => Fate::There,
-        Place::There => {
+        Place::There | Place::Free => {
             tell_text(name, b"output is there already", errors);
             Fate::Taken
         }
-        Place::Barred | Place::Free => {
+        Place::Barred => {
             tell_text(name, b"output cannot be opened", errors);
             Fate::Unwritten
         }

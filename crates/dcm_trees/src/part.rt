@@ -39,7 +39,7 @@ pub enum Naming {
     Linked,
     /// The part was moved.
     Moved,
-    /// It did not: something is at that name.
+    /// It did not: something is at that name, or was.
     NotFree(Place),
     /// It did not.
     Failed,
@@ -154,6 +154,14 @@ fn move_if_free<S: Folders>(part: &str, path: &str, base: usize, system: &mut S)
     }
 }
 
+/// What is at the name of an output that something was said to be at. Nothing is moved there.
+fn look_again<S: Folders>(path: &str, base: usize, system: &mut S) -> Naming
+    requires { base ≤ length path.now }
+    ensures { spec.LooksAgain S.folders_do path.now base system.old result system.new }
+{
+    Naming::NotFree(place_at(path.as_bytes(), base, system))
+}
+
 /// Gives the part the name of its output, in folders that are there: a second name, which replaces nothing; or, where
 /// the file system has none, the part is moved, if nothing is at that name.
 fn give_second_name<S: Folders>(part: &[u8], path: &[u8], base: usize, system: &mut S) -> Naming
@@ -168,6 +176,7 @@ fn give_second_name<S: Folders>(part: &[u8], path: &[u8], base: usize, system: &
     };
     match system.link(from, to) {
         Ok(()) => Naming::Linked,
+        Err(e) if was_there(&e) => look_again(to, base, system),
         Err(_) => move_if_free(from, to, base, system),
     }
 }

@@ -15,6 +15,7 @@ mod moved;
 mod outputs;
 mod parts;
 mod paths;
+mod raced;
 mod refused;
 mod rows;
 mod runs;
@@ -86,6 +87,11 @@ fn names_that_are_left_out(rt: HostRuntime) -> Result<(), Fail> {
 #[test]
 fn names_that_are_shown(rt: HostRuntime) -> Result<(), Fail> {
     expect_rows(rt.alloc(), &left_out::SHOWN_NAMES)
+}
+
+#[test]
+fn names_taken_meanwhile(rt: HostRuntime) -> Result<(), Fail> {
+    expect_rows(rt.alloc(), &raced::RACES)
 }
 
 #[test]

@@ -1,15 +1,6 @@
-use Rattle.std.proofs.Common.{◌≡◌, refl, Bool, true, false}
-use Rattle.std.specs.Prelude.{not}
+use Rattle.dcm_lemmas.proofs.Truth.{not_true, not_false}
 use Rattle.dcm_trees.specs.Beginning as spec
 use Rattle.dcm_trees.proofs.beginning.check_use.Goals as goal
-
-not_true : (b : Bool) → not b ≡ true → b ≡ false
-not_true true e = absurd (cc)
-not_true false e = refl
-
-not_false : (b : Bool) → not b ≡ false → b ≡ true
-not_false true e = refl
-not_false false e = absurd (cc)
 
 pub returns-then-not-options : goal.returns-then-not-options
 returns-then-not-options g c = spec.is_new (not_true c.args.options.continues c.if-not-options.true) c.check_new.ensures
