@@ -32,7 +32,7 @@ GENERATED = "docs/auditors/LAWS.md"
 # The most words of each page.
 MOST_WORDS = {
     "README.md": 720,
-    "CHANGELOG.md": 515,
+    "CHANGELOG.md": 525,
     "CONTRIBUTING.md": 1_236,
     "docs/PERF.md": 1_176,
     "docs/auditors/DEFINITIONS.md": 1_758,
@@ -43,8 +43,8 @@ MOST_WORDS = {
     "docs/engineers/GLOSSARY.md": 618,
     "docs/users/BENCHMARKS.md": 515,
     "docs/users/COOKBOOK.md": 1_854,
-    "docs/users/PROFILE.md": 5_715,
-    MANUAL: 3_525,
+    "docs/users/PROFILE.md": 5_745,
+    MANUAL: 3_550,
 }
 LONG, LONGEST, MOST_LONG = 30, 45, 20
 

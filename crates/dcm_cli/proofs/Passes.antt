@@ -17,6 +17,8 @@ pub mod EditPasses
 pub mod DeidentifyPasses
 pub mod Decided
 pub mod Remarked
+pub mod RemarkedDates
+pub mod RemarkedSets
 pub mod KeyBytes
 pub mod Ended
 pub mod PatientBar

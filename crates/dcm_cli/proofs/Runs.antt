@@ -6,6 +6,7 @@ pub mod Sure
 pub mod OneSource
 pub mod OneFirst
 pub mod OneAnswer
+pub mod OneRemark
 pub mod Stopping
 pub mod InMemory
 pub mod Texts

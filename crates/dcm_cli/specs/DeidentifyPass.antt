@@ -60,6 +60,7 @@ pub record DeidentifyPass {S R : Type 0} (sink : Ghosts S) (r : Reader R) (optio
   pub remarks_are : ended.remarks ≡ record {
     unnamed = is_unnamed whom (ends_whole passed);
     emptied = last.place.seen.emptied;
+    unknown = false;
   }
 
 -- the same of an opened file; each device failed exactly where the ending says so

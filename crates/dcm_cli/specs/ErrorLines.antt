@@ -112,6 +112,14 @@ abbrev pub nobody_lines : (unnamed : Bool) → List ℕ
 nobody_lines true = nobody_line
 nobody_lines false = []
 
+-- a value of Specific Character Set names what is not known
+abbrev pub unknown_line : List ℕ
+unknown_line = error_line (codes "character set is not known")
+
+abbrev pub unknown_lines : (unknown : Bool) → List ℕ
+unknown_lines false = []
+unknown_lines true = unknown_line
+
 -- the key cannot be opened, or cannot be read
 abbrev pub key_line : (was_opened : Bool) → List ℕ
 key_line false = error_line (codes "key cannot be opened")

@@ -8,12 +8,17 @@ use Rattle.dcm_devices.specs.Device.{AppendsFront}
 use Rattle.dcm_base.specs.Tree.Front.{Front}
 use Rattle.dcm_base.specs.File.MetaReads as meta
 use Rattle.dcm_base.specs.File.MetaReads.{Meta, MetaReads}
+use Rattle.dcm_base.specs.Reading.Bars.{no_bar}
 use Rattle.dcm_base.specs.Reading.Reads.{Reads}
 use Rattle.dcm_base.specs.Reading.Stop.{Stop, complete, refused, is_undecided}
+use Rattle.dcm_base.specs.declared.dictionary.Dictionary.{Dictionary}
 use Rattle.dcm_base.specs.declared.syntax.Coding.{Coding}
+use Rattle.dcm_base.specs.declared.syntax.Syntax.{Syntax}
+use Rattle.dcm_base.specs.Tables.Syntax.{read_by}
 use Rattle.dcm_edits.specs.Edit.{Edit, found}
 use Rattle.dcm_edits.specs.Meaning.{AreMeant}
-use Rattle.dcm_words.specs.Words.{Job, build as building, modify, deidentify}
+use Rattle.dcm_words.specs.declared.job.Texts.TheVariants.{Characters}
+use Rattle.dcm_words.specs.Words.{Job, dump_decoded, dump_named, build as building, modify, deidentify}
 use Rattle.dcm_cli.specs.declared.ending.Ended.{Ended}
 use Rattle.dcm_cli.specs.declared.ending.Ending.{Ending}
 use Rattle.dcm_cli.specs.declared.ending.Remarks.{Remarks}
@@ -114,6 +119,9 @@ pub record ReadRemarks (job : Job) (input : List ℕ) (remarks : Remarks) : Type
 -- no other job remarks anything
 abbrev pub Remarked : Job → (input : List ℕ) → Remarks → Type 0
 Remarked (deidentify options reports key) input remarks = ReadRemarks (deidentify options reports key) input remarks
+Remarked (dump_decoded d mode bare) input remarks = ReadRemarks (dump_decoded d mode bare) input remarks
+Remarked (dump_named Characters d mode bare named) input remarks =
+    ReadRemarks (dump_named Characters d mode bare named) input remarks
 Remarked job input remarks = remarks ≡ no_remarks
 
 -- of a beginning of a file: nothing until two bytes have ended its meta group
@@ -125,8 +133,24 @@ pub data FileRemarked (job : Job) (p : List ℕ) (remarks : Remarks) : Type 0 wh
       → Reads (job_bar job coding) coding.syntax (set_at group) (drop (set_at group) p) set stop
       → is_undecided (Some stop) ≡ true → remarks ≡ remarks_at job (going_on set) → FileRemarked job p remarks
 
+-- of a beginning of a data set alone
+pub record AloneRemarked (job : Job) (syntax : Syntax) (p : List ℕ) (remarks : Remarks) : Type 0 where
+  pub set : Front
+  pub stop : Stop
+  pub reads : Reads no_bar syntax 0 p set stop
+  pub open_end : is_undecided (Some stop) ≡ true
+  pub remarks_are : remarks ≡ remarks_at job (going_on set)
+
+-- of a beginning of what is dumped
+abbrev pub DumpRemarked : Job → Dictionary → (bare : Option Syntax) → (p : List ℕ) → Remarks → Type 0
+DumpRemarked job d None p remarks = FileRemarked job p remarks
+DumpRemarked job d (Some syntax) p remarks = AloneRemarked job (read_by d syntax) p remarks
+
 abbrev pub SoFarRemarked : Job → (p : List ℕ) → Remarks → Type 0
 SoFarRemarked (deidentify options reports key) p remarks = FileRemarked (deidentify options reports key) p remarks
+SoFarRemarked (dump_decoded d mode bare) p remarks = DumpRemarked (dump_decoded d mode bare) d bare p remarks
+SoFarRemarked (dump_named Characters d mode bare named) p remarks =
+    DumpRemarked (dump_named Characters d mode bare named) d bare p remarks
 SoFarRemarked job p remarks = remarks ≡ no_remarks
 
 -- of all inputs that begin with these bytes and may go on so, where no device failed; and of these bytes, where reading

@@ -6,7 +6,7 @@ ghost use Rattle.dcm_words.specs.Words.{dump_decoded as decoded_job};
 ghost use Rattle.dcm_files.specs.Pieces.{BUFFER_LIMIT};
 ghost use Rattle.dcm_cli.specs.Calls as calls;
 
-use crate::ending::{Ending, ending_of_head};
+use crate::ending::{Ended, Ending, ending_of_head, remarking_nothing, remarking_unknown};
 use crate::head::{read_head_of, set_start};
 use crate::pass::{read_rest, read_set};
 use dcm_base::{Coding, DeviceIn, DeviceOut, Dictionary, Mode, Syntax, Watched};
@@ -23,30 +23,31 @@ fn decode_file<R: DeviceIn, W: DeviceOut>(
     input: &mut Watched<R>,
     out: &mut Watched<W>,
     buffer: &mut [u8],
-) -> Ending
+) -> Ended
     requires room { 0 < length buffer.old }
     requires bound { length buffer.old ≤ BUFFER_LIMIT }
-    ensures { calls.Works R.DeviceIn W.DeviceOut (decoded_job dictionary mode None) input.old input.new out.old
+    ensures { calls.WorksOn R.DeviceIn W.DeviceOut (decoded_job dictionary mode None) input.old input.new out.old
         out.new result }
 {
     meta.clear();
     let beginning = match read_head_of(meta, input, buffer) {
         Ok(beginning) => beginning,
-        Err(ending) => return ending_of_head(ending),
+        Err(ending) => return remarking_nothing(ending_of_head(ending)),
     };
     if decoded_dump_header(meta, dictionary, mode, out).is_err() {
-        return Ending::Output;
+        return remarking_nothing(Ending::Output);
     }
     let start = set_start(meta);
     let mut sink = DecodedDumpSink::new(out, dictionary, mode);
-    read_set(
+    let ending = read_set(
         beginning,
         meta.coding().read_by(dictionary),
         start,
         input,
         buffer,
         &mut sink,
-    )
+    );
+    remarking_unknown(ending, sink.has_unknown())
 }
 
 /// Writes the dump of a data set alone.
@@ -57,14 +58,14 @@ fn decode_set<R: DeviceIn, W: DeviceOut>(
     input: &mut Watched<R>,
     out: &mut Watched<W>,
     buffer: &mut [u8],
-) -> Ending
+) -> Ended
     requires room { 0 < length buffer.old }
     requires bound { length buffer.old ≤ BUFFER_LIMIT }
-    ensures { calls.Works R.DeviceIn W.DeviceOut (decoded_job dictionary mode (Some syntax)) input.old input.new
+    ensures { calls.WorksOn R.DeviceIn W.DeviceOut (decoded_job dictionary mode (Some syntax)) input.old input.new
         out.old out.new result }
 {
     if decoded_alone_header(SyntaxUid::of(syntax).as_bytes(), out).is_err() {
-        return Ending::Output;
+        return remarking_nothing(Ending::Output);
     }
     let coding = Coding {
         syntax: syntax.read_by(dictionary),
@@ -72,7 +73,8 @@ fn decode_set<R: DeviceIn, W: DeviceOut>(
     };
     let mut sink = DecodedDumpSink::new(out, dictionary, mode);
     let mut machine = Machine::new(coding, 0);
-    read_rest(0, input, buffer, &mut machine, &mut sink)
+    let ending = read_rest(0, input, buffer, &mut machine, &mut sink);
+    remarking_unknown(ending, sink.has_unknown())
 }
 
 /// Writes the dump of a file, or of a data set alone, by a reader of heads and a buffer that may have served other
@@ -83,10 +85,10 @@ pub fn decode_with<R: DeviceIn, W: DeviceOut>(
     buffer: &mut [u8],
     input: &mut Watched<R>,
     out: &mut Watched<W>,
-) -> Ending
+) -> Ended
     requires room { 0 < length buffer.old }
     requires bound { length buffer.old ≤ BUFFER_LIMIT }
-    ensures { calls.Works R.DeviceIn W.DeviceOut (decoded_job dump.dictionary dump.mode dump.bare) input.old
+    ensures { calls.WorksOn R.DeviceIn W.DeviceOut (decoded_job dump.dictionary dump.mode dump.bare) input.old
         input.new out.old out.new result }
 {
     match dump.bare {

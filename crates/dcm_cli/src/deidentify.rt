@@ -98,7 +98,11 @@ fn read_deidentified<R: DeviceIn, S: Sink>(
     let ending = with_pixels(ending, what.reports, deidentified.pixels_may_show());
     let emptied = deidentified.dates_emptied();
     Ended {
-        remarks: Remarks { unnamed, emptied },
+        remarks: Remarks {
+            unnamed,
+            emptied,
+            unknown: false,
+        },
         ending,
     }
 }

@@ -8,7 +8,7 @@ ghost use Rattle.dcm_files.specs.Pieces.{BUFFER_LIMIT};
 ghost use Rattle.dcm_cli.specs.Calls as calls;
 
 use crate::decode::decode_with;
-use crate::ending::{Ending, ending_of_head};
+use crate::ending::{Ended, Ending, ending_of_head, remarking_nothing};
 use crate::head::{read_head_of, set_start};
 use crate::named::named_with;
 use crate::pass::{read_rest, read_set};
@@ -107,14 +107,14 @@ fn dump_all<R: DeviceIn, W: DeviceOut>(
     buffer: &mut [u8],
     input: &mut Watched<R>,
     out: &mut Watched<W>,
-) -> Ending
+) -> Ended
     requires room { 0 < length buffer.old }
     requires bound { length buffer.old ≤ BUFFER_LIMIT }
-    ensures { calls.Works R.DeviceIn W.DeviceOut (dump_as dump.texts dump.dictionary dump.mode dump.bare) input.old
+    ensures { calls.WorksOn R.DeviceIn W.DeviceOut (dump_as dump.texts dump.dictionary dump.mode dump.bare) input.old
         input.new out.old out.new result }
 {
     match dump.texts {
-        Texts::Bytes => dump_by_bytes(dump, meta, buffer, input, out),
+        Texts::Bytes => remarking_nothing(dump_by_bytes(dump, meta, buffer, input, out)),
         Texts::Characters => decode_with(dump, meta, buffer, input, out),
     }
 }
@@ -128,10 +128,10 @@ pub fn dump_with<R: DeviceIn, W: DeviceOut>(
     buffer: &mut [u8],
     input: &mut Watched<R>,
     out: &mut Watched<W>,
-) -> Ending
+) -> Ended
     requires room { 0 < length buffer.old }
     requires bound { length buffer.old ≤ BUFFER_LIMIT }
-    ensures { calls.Works R.DeviceIn W.DeviceOut
+    ensures { calls.WorksOn R.DeviceIn W.DeviceOut
         (dump_of (named_as dump.named) dump.texts dump.dictionary dump.mode dump.bare) input.old input.new out.old
         out.new result }
 {
@@ -147,8 +147,8 @@ pub fn dump<R: DeviceIn, W: DeviceOut>(
     dump: Dump,
     input: &mut Watched<R>,
     out: &mut Watched<W>,
-) -> Ending
-    ensures { calls.Works R.DeviceIn W.DeviceOut
+) -> Ended
+    ensures { calls.WorksOn R.DeviceIn W.DeviceOut
         (dump_of (named_as dump.named) dump.texts dump.dictionary dump.mode dump.bare) input.old input.new out.old
         out.new result }
 {

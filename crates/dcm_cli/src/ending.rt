@@ -37,6 +37,8 @@ pub struct Remarks {
     pub unnamed: bool,
     /// How many shifted dates became empty.
     pub emptied: u64,
+    /// Texts are shown by characters, and a Specific Character Set (0008,0005) names an unknown character set.
+    pub unknown: bool,
 }
 
 impl Remarks {
@@ -44,6 +46,7 @@ impl Remarks {
     pub const NONE: Remarks = Remarks {
         unnamed: false,
         emptied: 0,
+        unknown: false,
     };
 }
 
@@ -82,6 +85,20 @@ pub fn remarking_nothing(ending: Ending) -> Ended
 {
     Ended {
         remarks: Remarks::NONE,
+        ending,
+    }
+}
+
+/// A job ended so. `unknown` says whether a Specific Character Set (0008,0005) names an unknown character set.
+pub fn remarking_unknown(ending: Ending, unknown: bool) -> Ended
+    ensures { result ≡ remarks.remarking_unknown ending unknown }
+{
+    Ended {
+        remarks: Remarks {
+            unnamed: false,
+            emptied: 0,
+            unknown,
+        },
         ending,
     }
 }

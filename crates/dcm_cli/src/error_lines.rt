@@ -253,6 +253,19 @@ pub fn put_emptied<E: DeviceOut>(count: u64, errors: &mut Watched<E>) -> Result<
     )
 }
 
+/// Writes that a value of Specific Character Set names what is not known, where that is so.
+pub fn put_unknown<E: DeviceOut>(unknown: bool, errors: &mut Watched<E>) -> Result<(), WriteFailed>
+    ensures { Wrote E.DeviceOut errors.old errors.new (spec.unknown_lines unknown) result }
+{
+    if !unknown {
+        return Ok(());
+    }
+    put_line(
+        errors,
+        &[b"dcmtools: character set is not known\n".as_slice()],
+    )
+}
+
 /// Reports that the key cannot be opened or read, and answers the status.
 pub fn tell_key<E: DeviceOut>(was_opened: bool, errors: &mut Watched<E>) -> u8
     ensures line { calls.Reports E.DeviceOut errors.old errors.new (spec.key_line was_opened) }

@@ -10,7 +10,7 @@ ghost use Rattle.dcm_cli.specs.NamedPass as named_pass;
 ghost use Rattle.dcm_cli.specs.NamedPass.{named_by};
 ghost use Rattle.dcm_cli.specs.Pass as spec;
 
-use crate::ending::{Ending, ending_of_head};
+use crate::ending::{Ended, Ending, ending_of_head, remarking_nothing, remarking_unknown};
 use crate::head::{Beginning, read_head_of, set_start};
 use crate::pass::{read_rest, read_set};
 use dcm_base::{Coding, DeviceIn, DeviceOut, Dictionary, Mode, Syntax, Tag, Watched};
@@ -138,23 +138,23 @@ fn named_file_by_characters<R: DeviceIn, W: DeviceOut>(
     input: &mut Watched<R>,
     out: &mut Watched<W>,
     buffer: &mut [u8],
-) -> Ending
+) -> Ended
     requires room { 0 < length buffer.old }
     requires bound { length buffer.old ≤ BUFFER_LIMIT }
-    ensures { calls.Works R.DeviceIn W.DeviceOut
+    ensures { calls.WorksOn R.DeviceIn W.DeviceOut
         (named_job Characters dictionary mode None (named_by tags.now ways)) input.old input.new out.old out.new result }
 {
     meta.clear();
     let beginning = match read_head_of(meta, input, buffer) {
         Ok(beginning) => beginning,
-        Err(ending) => return ending_of_head(ending),
+        Err(ending) => return remarking_nothing(ending_of_head(ending)),
     };
     if named_decoded_meta(meta, tags, ways, dictionary, mode, out).is_err() {
-        return Ending::Output;
+        return remarking_nothing(Ending::Output);
     }
     let start = set_start(meta);
     let mut lines = DecodedDumpSink::new(out, dictionary, mode);
-    show_set(
+    let ending = show_set(
         tags,
         ways,
         mode,
@@ -164,7 +164,8 @@ fn named_file_by_characters<R: DeviceIn, W: DeviceOut>(
         input,
         buffer,
         &mut lines,
-    )
+    );
+    remarking_unknown(ending, lines.has_unknown())
 }
 
 /// The same of a data set alone.
@@ -177,10 +178,10 @@ fn named_set_by_characters<R: DeviceIn, W: DeviceOut>(
     input: &mut Watched<R>,
     out: &mut Watched<W>,
     buffer: &mut [u8],
-) -> Ending
+) -> Ended
     requires room { 0 < length buffer.old }
     requires bound { length buffer.old ≤ BUFFER_LIMIT }
-    ensures { calls.Works R.DeviceIn W.DeviceOut
+    ensures { calls.WorksOn R.DeviceIn W.DeviceOut
         (named_job Characters dictionary mode (Some syntax) (named_by tags.now ways)) input.old input.new out.old out.new
         result }
 {
@@ -189,7 +190,56 @@ fn named_set_by_characters<R: DeviceIn, W: DeviceOut>(
         encapsulated: false,
     };
     let mut lines = DecodedDumpSink::new(out, dictionary, mode);
-    show_alone(tags, ways, mode, coding, input, buffer, &mut lines)
+    let ending = show_alone(tags, ways, mode, coding, input, buffer, &mut lines);
+    remarking_unknown(ending, lines.has_unknown())
+}
+
+/// Writes the lines of named elements of a file, or of a data set alone, with texts by their bytes.
+fn named_by_bytes<R: DeviceIn, W: DeviceOut>(
+    dump: Dump,
+    meta: &mut Meta,
+    buffer: &mut [u8],
+    input: &mut Watched<R>,
+    out: &mut Watched<W>,
+) -> Ending
+    requires room { 0 < length buffer.old }
+    requires bound { length buffer.old ≤ BUFFER_LIMIT }
+    ensures { calls.Works R.DeviceIn W.DeviceOut
+        (named_job Bytes dump.dictionary dump.mode dump.bare (named_as dump.named)) input.old input.new out.old out.new
+        result }
+{
+    let (tags, ways) = (dump.named.tags.as_slice(), dump.named.ways);
+    let (dictionary, mode) = (dump.dictionary, dump.mode);
+    match dump.bare {
+        None => named_file_by_bytes(tags, ways, dictionary, mode, meta, input, out, buffer),
+        Some(syntax) => named_set_by_bytes(
+            tags, ways, dictionary, mode, syntax, input, out, buffer,
+        ),
+    }
+}
+
+/// The same with texts by characters.
+fn named_by_characters<R: DeviceIn, W: DeviceOut>(
+    dump: Dump,
+    meta: &mut Meta,
+    buffer: &mut [u8],
+    input: &mut Watched<R>,
+    out: &mut Watched<W>,
+) -> Ended
+    requires room { 0 < length buffer.old }
+    requires bound { length buffer.old ≤ BUFFER_LIMIT }
+    ensures { calls.WorksOn R.DeviceIn W.DeviceOut
+        (named_job Characters dump.dictionary dump.mode dump.bare (named_as dump.named)) input.old input.new out.old
+        out.new result }
+{
+    let (tags, ways) = (dump.named.tags.as_slice(), dump.named.ways);
+    let (dictionary, mode) = (dump.dictionary, dump.mode);
+    match dump.bare {
+        None => named_file_by_characters(tags, ways, dictionary, mode, meta, input, out, buffer),
+        Some(syntax) => named_set_by_characters(
+            tags, ways, dictionary, mode, syntax, input, out, buffer,
+        ),
+    }
 }
 
 /// Writes the lines of named elements of a file, or of a data set alone, by a reader of heads and a buffer that may have
@@ -201,27 +251,15 @@ pub fn named_with<R: DeviceIn, W: DeviceOut>(
     buffer: &mut [u8],
     input: &mut Watched<R>,
     out: &mut Watched<W>,
-) -> Ending
+) -> Ended
     requires room { 0 < length buffer.old }
     requires bound { length buffer.old ≤ BUFFER_LIMIT }
-    ensures { calls.Works R.DeviceIn W.DeviceOut
+    ensures { calls.WorksOn R.DeviceIn W.DeviceOut
         (named_job dump.texts dump.dictionary dump.mode dump.bare (named_as dump.named)) input.old input.new out.old
         out.new result }
 {
-    let (tags, ways) = (dump.named.tags.as_slice(), dump.named.ways);
-    let (dictionary, mode) = (dump.dictionary, dump.mode);
-    match (dump.texts, dump.bare) {
-        (Texts::Bytes, None) => named_file_by_bytes(
-            tags, ways, dictionary, mode, meta, input, out, buffer,
-        ),
-        (Texts::Bytes, Some(syntax)) => named_set_by_bytes(
-            tags, ways, dictionary, mode, syntax, input, out, buffer,
-        ),
-        (Texts::Characters, None) => named_file_by_characters(
-            tags, ways, dictionary, mode, meta, input, out, buffer,
-        ),
-        (Texts::Characters, Some(syntax)) => named_set_by_characters(
-            tags, ways, dictionary, mode, syntax, input, out, buffer,
-        ),
+    match dump.texts {
+        Texts::Bytes => remarking_nothing(named_by_bytes(dump, meta, buffer, input, out)),
+        Texts::Characters => named_by_characters(dump, meta, buffer, input, out),
     }
 }

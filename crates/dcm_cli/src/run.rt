@@ -15,8 +15,8 @@ use crate::deidentify::deidentify;
 use crate::dump::dump;
 use crate::ending::{Ended, Ending, Remarks, Verdict, remarking_nothing};
 use crate::error_lines::{
-    put_emptied, put_nobody, tell_fault, tell_line_fault, tell_output, tell_pixels, tell_unplaced,
-    tell_unread,
+    put_emptied, put_nobody, put_unknown, tell_fault, tell_line_fault, tell_output, tell_pixels,
+    tell_unplaced, tell_unread,
 };
 use crate::modify::modify;
 use crate::status::{DEVICE, DONE, FAULT, REMARK};
@@ -132,6 +132,7 @@ fn put_all_remarks<E: DeviceOut>(
     ensures { Wrote E.DeviceOut errors.old errors.new (remarked.remark_lines remarks) result }
 {
     put_nobody(remarks.unnamed, errors)?;
+    put_unknown(remarks.unknown, errors)?;
     put_emptied(remarks.emptied, errors)
 }
 
@@ -163,7 +164,7 @@ fn work<R: DeviceIn, W: DeviceOut>(job: &Job, input: &mut Watched<R>, out: &mut 
     ensures meant { spec.IsMeant (job_of job.now) }
 {
     match job {
-        Job::Dump(what) => remarking_nothing(dump(*what, input, out)),
+        Job::Dump(what) => dump(*what, input, out),
         Job::Convert(what) => remarking_nothing(convert(*what, input, out)),
         Job::Build(what) => remarking_nothing(build(*what, input, out)),
         Job::Modify(what) => remarking_nothing(modify(what, input, out)),

@@ -17,19 +17,21 @@ use Rattle.dcm_files.specs.Devices.{clash}
 use Rattle.dcm_files.specs.Memory.{may_do}
 use Rattle.dcm_names.specs.Names.{can_be_opened}
 use Rattle.dcm_names.specs.NamedLines.{unopened_line}
+use Rattle.dcm_cli.specs.declared.ending.Remarks.{Remarks}
 use Rattle.dcm_cli.specs.declared.ending.Verdict.{Verdict}
 use Rattle.dcm_cli.specs.Change.{Change}
 use Rattle.dcm_cli.specs.ErrorLines.{Reports}
 use Rattle.dcm_cli.specs.Program.{Follows}
-use Rattle.dcm_cli.specs.Run.{Answered}
+use Rattle.dcm_cli.specs.Run.{Answered, Remarked}
 use Rattle.dcm_cli.specs.Status.{DEVICE, DONE}
 use Rattle.dcm_cli.proofs.Passes.Readers.{known}
+use Rattle.dcm_cli.proofs.Runs.OneRemark.{one_remark, some_remark}
 use Rattle.dcm_cli.proofs.Runs.InMemory.{memory_reader, memory_writer}
 use Rattle.dcm_each.specs.Each.{Writing, DoesAt, not_opened, done_at}
 use Rattle.dcm_each.specs.InMemory.{file_of}
 use Rattle.dcm_each.proofs.InMemory.{Told, told_of, told_then, front_less, held, opened_is}
 use Rattle.dcm_dumps.specs.Heading.{heading}
-use Rattle.dcm_dumps.specs.Dumps.{Manner, Shown, DoesDump, is_output, headed as shown_headed, ShowsFile, shown as file_shown, unread, not_headed, not_written, not_flushed, dumps_into, next_number, verdict_lines, verdict_status}
+use Rattle.dcm_dumps.specs.Dumps.{Manner, Shown, DoesDump, is_output, headed as shown_headed, ShowsFile, shown as file_shown, unread, not_headed, not_written, not_flushed, dumps_into, next_number, remark_lines, verdict_lines, verdict_status}
 use Rattle.dcm_dumps.specs.DumpsInMemory.{Texts, no_texts, and_texts, Place, passed, headed, AllCome, Showing, unopened, shown, FileComes}
 use Rattle.dcm_dumps.proofs.Texts.{one_text}
 use Rattle.dcm_dumps.proofs.TextsAlike.{Split, both_texts, texts_none}
@@ -97,10 +99,12 @@ module _ (h : Showing) (name : List ℕ) (errors : Change) where
       subst (λ (x : Result ℕ WriteFailed). Left u q errors from to x) g (subst (λ (x : Place). Left u x errors from to r) f (subst (λ (x : Texts). Left x p errors from to r) e left))
 
   -- the dump of a file is that of its bytes
-  same_text : (from : Place) (bytes text : List ℕ) (verdict : Verdict) (t : Texts) (last : Place) → Answered h.job bytes text verdict → FileComes h from name (Some bytes) t last → (shown h from name text verdict ≡ t) × (headed from ≡ last)
-  same_text from bytes text verdict t last was (other, said, is, same, at) =
+  same_text : (from : Place) (bytes text : List ℕ) (verdict : Verdict) (remarks : Remarks) (t : Texts) (last : Place) → Answered h.job bytes text verdict → Remarked h.job bytes remarks → FileComes h from name (Some bytes) t last
+      → (shown h from name text verdict remarks ≡ t) × (headed from ≡ last)
+  same_text from bytes text verdict remarks t last was remarked (other, said, told, is, as_told, same, at) =
       let one = one_text h.job bytes text other verdict said was is in
-      ((λ i. shown h from name (one.0 i) (one.1 i)) ∙ sym same, sym at)
+      let also = one_remark h.job bytes remarks told remarked as_told in
+      ((λ i. shown h from name (one.0 i) (one.1 i) (also i)) ∙ sym same, sym at)
 
   module _ (from to : Shown Measured) (input left : MemIn) (result : Result ℕ WriteFailed) (t : Texts) (last : Place) (comes : FileComes h (place from) name (Some input.rest.now) t last) where
     abbrev head : List ℕ
@@ -110,21 +114,23 @@ module _ (h : Showing) (name : List ℕ) (errors : Change) where
     less_left : (text : List ℕ) (verdict : Verdict) (front : List ℕ) (failure : WriteFailed) → Answered h.job input.rest.now text verdict → held to.out ≡ append_known (held from.out) front → length front < length (head ++ text)
         → to.out.out.failed ≡ true → result ≡ Err failure → Left t last errors from to result
     less_left text verdict front failure was grown fewer failed is =
-        let s = same_text (place from) input.rest.now text verdict t last was comes in
-        same_left (shown h (place from) name text verdict) t (headed (place from)) last from to (Err failure) result s.0 s.1 (sym is) (record { less = front; grown = grown; fewer = fewer; failed = failed })
+        let r = some_remark h.job input.rest.now in
+        let s = same_text (place from) input.rest.now text verdict r.0 t last was r.1 comes in
+        same_left (shown h (place from) name text verdict r.0) t (headed (place from)) last from to (Err failure) result s.0 s.1 (sym is) (record { less = front; grown = grown; fewer = fewer; failed = failed })
 
     shows_left : ShowsFile memory_reader memory_writer h.job head name errors from.out to.out input result left → to.number ≡ next_number from.number → IfOk result (λ status. to.is_first ≡ false) → Left t last errors from to result
-    shows_left (file_shown given how text verdict reads all sound went fine flushed line is) number first =
+    shows_left (file_shown given how text verdict remarks reads all remarked sound went fine flushed line is) number first =
         let k = known memory_reader _ input left given how reads input.rest.now refl in
         let was = subst (λ (bytes : List ℕ). Answered h.job bytes text verdict) (sym k.2) (all k.0 k.1) in
-        let s = same_text (place from) input.rest.now text verdict t last was comes in
-        same_left (shown h (place from) name text verdict) t (headed (place from)) last from to (Ok (verdict_status verdict)) result s.0 s.1 (sym is)
-        (record { grown = went; fine = fine; told = told_of errors (verdict_lines name verdict) line; status_is = refl; at = λ i. record { number = number i; is_first = (subst (λ (r : Result ℕ WriteFailed). IfOk r (λ status. to.is_first ≡ false)) is first) i } })
-    shows_left (unread given how text reads sure failed went fine flushed line is) number first = absurd (let no : false ≡ true = failed in cc)
+        let told = subst (λ (bytes : List ℕ). Remarked h.job bytes remarks) (sym k.2) (remarked k.0 k.1) in
+        let s = same_text (place from) input.rest.now text verdict remarks t last was told comes in
+        same_left (shown h (place from) name text verdict remarks) t (headed (place from)) last from to (Ok (verdict_status verdict)) result s.0 s.1 (sym is)
+        (record { grown = went; fine = fine; told = told_of errors (remark_lines name remarks ++ verdict_lines name verdict) line; status_is = refl; at = λ i. record { number = number i; is_first = (subst (λ (r : Result ℕ WriteFailed). IfOk r (λ status. to.is_first ≡ false)) is first) i } })
+    shows_left (unread given how text remarks reads sure remarked failed went fine flushed line is) number first = absurd (let no : false ≡ true = failed in cc)
     shows_left (not_headed failure front failed same line is) number first =
         let few = front_less front in
         let l = length-append head comes.0 in
-        less_left comes.0 comes.1 front.front failure comes.2 front.grown (omega (arith, few, l)) failed is
+        less_left comes.0 comes.1 front.front failure comes.3 front.grown (omega (arith, few, l)) failed is
     shows_left (not_written given how failure reads each failed line is) number first =
         let k = known memory_reader _ input left given how reads input.rest.now refl in
         let e = each k.0 k.1 in

@@ -9,6 +9,7 @@ use Rattle.dcm_cli.specs.declared.ending.Verdict.{Verdict}
 use Rattle.dcm_cli.specs.Answer.{ReadAnswers, Answer, output_of}
 use Rattle.dcm_cli.specs.Run.{Answered, ReadEnds, verdict_of_source, verdict_of_line_stop}
 use Rattle.dcm_cli.proofs.Runs.OneAnswer.{some_answer}
+use Rattle.dcm_cli.proofs.Runs.OneRemark.{one_remark, some_remark}
 use Rattle.dcm_each.specs.Each.{listed_path}
 use Rattle.dcm_each.specs.InMemory.{file_of}
 use Rattle.dcm_dumps.specs.declared.plan.DumpsUsage.{DumpsUsage}
@@ -63,15 +64,17 @@ module _ {X : Type 0} (Comes : Place → X → Texts → Place → Type 0) where
 module _ (s : MemSystem) (h : Showing) where
   one_file : (from : Place) (name : List ℕ) (f : Option (List ℕ)) (t u : Texts) (p q : Place) → FileComes h from name f t p → FileComes h from name f u q → Same t u p q
   one_file from name None t u p q a b = (a.0 ∙ sym b.0, a.1 ∙ sym b.1)
-  one_file from name (Some bytes) t u p q (text, verdict, said, is, at) (text', verdict', said', is', at') =
+  one_file from name (Some bytes) t u p q (text, verdict, remarks, said, told, is, at) (text', verdict', remarks', said', told', is', at') =
       let one = one_text h.job bytes text text' verdict verdict' said said' in
-      (is ∙ (λ i. shown h from name (one.0 i) (one.1 i)) ∙ sym is', at ∙ sym at')
+      let also = one_remark h.job bytes remarks remarks' told told' in
+      (is ∙ (λ i. shown h from name (one.0 i) (one.1 i) (also i)) ∙ sym is', at ∙ sym at')
 
   some_file : (from : Place) (name : List ℕ) (f : Option (List ℕ)) → (t : Texts) × (p : Place) × FileComes h from name f t p
   some_file from name None = (unopened name, passed from, (refl, refl))
   some_file from name (Some bytes) =
       let x = some_text h.job bytes in
-      (shown h from name x.0 x.1, headed from, (x.0, x.1, x.2, refl, refl))
+      let r = some_remark h.job bytes in
+      (shown h from name x.0 x.1 r.0, headed from, (x.0, x.1, r.0, x.2, r.1, refl, refl))
 
   one_listed : (from : Place) (name : List ℕ) (t u : Texts) (p q : Place) → ListedComes s h from name t p → ListedComes s h from name u q → Same t u p q
   one_listed from name t u p q a b = one_file from name (file_of s name (listed_path name)) t u p q a b

@@ -9,11 +9,13 @@ use Rattle.dcm_files.specs.declared.opened.FileKind.{FileKind}
 use Rattle.dcm_files.specs.declared.opened.Opened.{Opened}
 use Rattle.dcm_files.specs.declared.opened.Unopened.{Unopened}
 use Rattle.dcm_files.specs.Devices.{MayDo, clash}
-use Rattle.dcm_names.specs.NamedLines.{clash_line, fault_line, unread_line}
+use Rattle.dcm_names.specs.NamedLines.{clash_line, fault_line, unknown_lines, unread_line}
 use Rattle.dcm_words.specs.Words.{Job}
 use Rattle.dcm_table_words.specs.Table.{Name}
+use Rattle.dcm_cli.specs.declared.ending.Ended.{Ended}
 use Rattle.dcm_cli.specs.declared.ending.Ending.{Ending}
 use Rattle.dcm_cli.specs.declared.ending.Ending.TheVariants.{Worked, Unread, Output}
+use Rattle.dcm_cli.specs.declared.ending.Remarks.{Remarks}
 use Rattle.dcm_cli.specs.declared.ending.Verdict.{Verdict}
 use Rattle.dcm_cli.specs.declared.ending.Verdict.TheVariants.{Refused}
 use Rattle.dcm_cli.specs.Answer.{Sure}
@@ -21,7 +23,7 @@ use Rattle.dcm_cli.specs.Calls.{Reader}
 use Rattle.dcm_cli.specs.Change.{Change}
 use Rattle.dcm_cli.specs.ErrorLines.{Reports}
 use Rattle.dcm_cli.specs.InputCalls.{How, Allows, ReadsInput, IsUndecided}
-use Rattle.dcm_cli.specs.Run.{Answered, AnsweredAll}
+use Rattle.dcm_cli.specs.Run.{Answered, AnsweredAll, Remarked, SoFarRemarked}
 use Rattle.dcm_cli.specs.Status.{DEVICE, DONE, FAULT}
 use Rattle.dcm_each.specs.Each.{Work, Writing, DoesName, DoesAll}
 use Rattle.dcm_dumps.specs.Heading.{heading}
@@ -70,6 +72,18 @@ ending_lines name (Worked verdict) = verdict_lines name verdict
 ending_lines name (Unread count) = unread_line name count
 ending_lines name Output = []
 
+-- with what is remarked of it, unless the output failed
+abbrev pub remark_lines : (name : List ℕ) → Remarks → List ℕ
+remark_lines name remarks = unknown_lines name remarks.unknown
+
+abbrev pub remarks_told : (name : List ℕ) → Ending → Remarks → List ℕ
+remarks_told name (Worked verdict) remarks = remark_lines name remarks
+remarks_told name (Unread count) remarks = remark_lines name remarks
+remarks_told name Output remarks = []
+
+abbrev pub ended_lines : (name : List ℕ) → Ended → List ℕ
+ended_lines name ended = remarks_told name ended.ending ended.remarks ++ ending_lines name ended.ending
+
 abbrev pub ending_status : Ending → ℕ
 ending_status (Worked verdict) = verdict_status verdict
 ending_status (Unread count) = DEVICE
@@ -77,17 +91,17 @@ ending_status Output = DEVICE
 
 -- the end of a dump: its output failed before; or it was flushed, and then what is wrong with its file was reported; or
 -- it could not be flushed. Where the output failed nothing was reported
-pub data EndsDump {W : Type 0} (w : Writer W) (name : List ℕ) (ending : Ending) (errors : Change) (from to : W)
+pub data EndsDump {W : Type 0} (w : Writer W) (name : List ℕ) (ended : Ended) (errors : Change) (from to : W)
     (result : Result ℕ WriteFailed) : Type 0 where
-  failed_before : (failure : WriteFailed) → ending ≡ Output → to ≡ from → Reports errors [] → result ≡ Err failure
-      → EndsDump w name ending errors from to result
-  flushed : (¬ (ending ≡ Output)) → w.contents to ≡ w.contents from → w.has_failed to ≡ w.has_failed from
+  failed_before : (failure : WriteFailed) → ended.ending ≡ Output → to ≡ from → Reports errors [] → result ≡ Err failure
+      → EndsDump w name ended errors from to result
+  flushed : (¬ (ended.ending ≡ Output)) → w.contents to ≡ w.contents from → w.has_failed to ≡ w.has_failed from
       → w.is_flushed to ≡ true
-      → Reports errors (ending_lines name ending) → result ≡ Ok (ending_status ending)
-      → EndsDump w name ending errors from to result
-  not_flushed : (failure : WriteFailed) → (¬ (ending ≡ Output)) → w.contents to ≡ w.contents from
+      → Reports errors (ended_lines name ended) → result ≡ Ok (ending_status ended.ending)
+      → EndsDump w name ended errors from to result
+  not_flushed : (failure : WriteFailed) → (¬ (ended.ending ≡ Output)) → w.contents to ≡ w.contents from
       → w.has_failed to ≡ true → w.room to ≡ None → Reports errors [] → result ≡ Err failure
-      → EndsDump w name ending errors from to result
+      → EndsDump w name ended errors from to result
 
 -- ---- one file
 
@@ -95,21 +109,29 @@ pub data EndsDump {W : Type 0} (w : Writer W) (name : List ℕ) (ending : Ending
 abbrev pub IsText : Job → (given : List ℕ) → How → (text : List ℕ) → Type 0
 IsText job given how text = ((verdict : Verdict) × AnsweredAll job given how text verdict) ⊎ Sure job given text
 
+-- what is remarked of all files that begin with these bytes and may go on so
+abbrev pub RemarkedAll : Job → (given : List ℕ) → How → Remarks → Type 0
+RemarkedAll job given how remarks = (rest : List ℕ) → Allows how rest → Remarked job (given ++ rest) remarks
+
 -- the dump of a file that is read, after a heading
 pub data ShowsFile {I W : Type 0} (r : Reader I) (w : Writer W) (job : Job) (heading name : List ℕ) (errors : Change)
     (from to : W) (before : I) (result : Result ℕ WriteFailed) (after : I) : Type 0 where
   -- no device failed: exactly the heading and the dump of each file that begins with the bytes that were read and may go
   -- on so were written and flushed, and then what is wrong with it was reported
-  shown : (given : List ℕ) (how : How) (text : List ℕ) (verdict : Verdict)
+  shown : (given : List ℕ) (how : How) (text : List ℕ) (verdict : Verdict) (remarks : Remarks)
       → ReadsInput r (IsUndecided job) before given how after → AnsweredAll job given how text verdict
+      → RemarkedAll job given how remarks
       → r.has_failed after ≡ r.has_failed before → w.contents to ≡ append_known (w.contents from) (heading ++ text)
-      → w.has_failed to ≡ w.has_failed from → w.is_flushed to ≡ true → Reports errors (verdict_lines name verdict)
+      → w.has_failed to ≡ w.has_failed from → w.is_flushed to ≡ true
+      → Reports errors (remark_lines name remarks ++ verdict_lines name verdict)
       → result ≡ Ok (verdict_status verdict) → ShowsFile r w job heading name errors from to before result after
   -- reading failed: what is sure of the bytes that came was written and flushed, and then that was reported
-  unread : (given : List ℕ) (how : How) (text : List ℕ) → ReadsInput r (IsUndecided job) before given how after
-      → Sure job given text → r.has_failed after ≡ true
+  unread : (given : List ℕ) (how : How) (text : List ℕ) (remarks : Remarks)
+      → ReadsInput r (IsUndecided job) before given how after
+      → Sure job given text → SoFarRemarked job given remarks → r.has_failed after ≡ true
       → w.contents to ≡ append_known (w.contents from) (heading ++ text) → w.has_failed to ≡ w.has_failed from
-      → w.is_flushed to ≡ true → Reports errors (unread_line name (length given)) → result ≡ Ok DEVICE
+      → w.is_flushed to ≡ true → Reports errors (remark_lines name remarks ++ unread_line name (length given))
+      → result ≡ Ok DEVICE
       → ShowsFile r w job heading name errors from to before result after
   -- the output failed with a beginning of the heading
   not_headed : (failure : WriteFailed) → AppendsFront (w.contents from) (w.contents to) heading

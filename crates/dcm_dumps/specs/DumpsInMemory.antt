@@ -9,16 +9,17 @@ use Rattle.dcm_names.specs.Names.{names_of}
 use Rattle.dcm_names.specs.NamedLines.{unopened_line}
 use Rattle.dcm_words.specs.Words.{Job}
 use Rattle.dcm_table_words.specs.Table.{Name, file, list}
+use Rattle.dcm_cli.specs.declared.ending.Remarks.{Remarks}
 use Rattle.dcm_cli.specs.declared.ending.Verdict.{Verdict}
 use Rattle.dcm_cli.specs.InMemory.{Fits, Took}
-use Rattle.dcm_cli.specs.Run.{Answered}
+use Rattle.dcm_cli.specs.Run.{Answered, Remarked}
 use Rattle.dcm_cli.specs.Status.{DEVICE, DONE}
 use Rattle.dcm_each.specs.Each.{listed_path}
 use Rattle.dcm_each.specs.InMemory.{file_of, AreReadWhole}
 use Rattle.dcm_dumps.specs.declared.plan.DumpsUsage.{DumpsUsage}
 use Rattle.dcm_dumps.specs.Words.{Dumps, meant_dumps, total_of}
 use Rattle.dcm_dumps.specs.Heading.{heading}
-use Rattle.dcm_dumps.specs.Dumps.{next_number, verdict_lines, verdict_status}
+use Rattle.dcm_dumps.specs.Dumps.{next_number, remark_lines, verdict_lines, verdict_status}
 use Rattle.dcm_dumps.specs.DumpsProgram.{usage_line, usage_status}
 
 -- ---- dumps
@@ -68,19 +69,20 @@ pub record Showing : Type 0 where
 abbrev pub unopened : (name : List ℕ) → Texts
 unopened name = record { text = []; lines = unopened_line name; status = DEVICE }
 
--- a heading, and the text of a file with this verdict
-abbrev pub shown : Showing → Place → (name text : List ℕ) → Verdict → Texts
-shown h from name text verdict = record {
+-- a heading, and the text of a file with this verdict, of which this is remarked
+abbrev pub shown : Showing → Place → (name text : List ℕ) → Verdict → Remarks → Texts
+shown h from name text verdict remarks = record {
   text = heading from.is_first (next_number from.number) h.total name ++ text;
-  lines = verdict_lines name verdict;
+  lines = remark_lines name remarks ++ verdict_lines name verdict;
   status = verdict_status verdict;
 }
 
 -- a file comes to the dump that its bytes give; one that cannot be opened has none
 abbrev pub FileComes : Showing → Place → (name : List ℕ) → Option (List ℕ) → Texts → Place → Type 0
 FileComes h from name None t to = (t ≡ unopened name) × (to ≡ passed from)
-FileComes h from name (Some bytes) t to = (text : List ℕ) × (verdict : Verdict) × Answered h.job bytes text verdict
-    × (t ≡ shown h from name text verdict) × (to ≡ headed from)
+FileComes h from name (Some bytes) t to =
+    (text : List ℕ) × (verdict : Verdict) × (remarks : Remarks) × Answered h.job bytes text verdict
+    × Remarked h.job bytes remarks × (t ≡ shown h from name text verdict remarks) × (to ≡ headed from)
 
 -- ---- names
 

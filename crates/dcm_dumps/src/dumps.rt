@@ -1,5 +1,5 @@
 // The dumps of files, one after another.
-ghost use Rattle.std.specs.Prelude.{◌≡◌, ◌≤◌, IfOk, true, false};
+ghost use Rattle.std.specs.Prelude.{◌≡◌, ◌≤◌, ◌++◌, IfOk, true, false};
 ghost use Rattle.dcm_devices.specs.Writing.{Wrote};
 ghost use Rattle.dcm_cli.specs.Change.{change_of};
 ghost use Rattle.dcm_cli.specs.Status as statuses;
@@ -14,12 +14,12 @@ use crate::heading::put_heading;
 use crate::plan::{DumpsPlan, total_of};
 use dcm_base::{DeviceIn, DeviceOut, Watched, WriteFailed, flush_out};
 use dcm_cli::dump::{PIECE, dump_with};
-use dcm_cli::ending::{Ending, Verdict};
+use dcm_cli::ending::{Ended, Ending, Verdict};
 use dcm_cli::status::{DEVICE, DONE, FAULT};
 use dcm_each::{Ends, FileWork, do_all};
 use dcm_files::{FileKind, System, clash};
 use dcm_head::Meta;
-use dcm_names::{put_clash, put_fault, put_unread};
+use dcm_names::{put_clash, put_fault, put_unknown, put_unread};
 use dcm_words::Dump;
 
 /// Shows files, one after another.
@@ -80,8 +80,8 @@ impl DumpWork {
     {
         put_heading(self.is_first, self.number, self.total, name, out)?;
         self.is_first = false;
-        let ending = dump_with(self.dump, &mut self.meta, &mut self.buffer, input, out);
-        end_dump(name, ending, out, errors)
+        let ended = dump_with(self.dump, &mut self.meta, &mut self.buffer, input, out);
+        end_dump(name, ended, out, errors)
     }
 }
 
@@ -100,6 +100,19 @@ fn put_ending<E: DeviceOut>(
     }
 }
 
+/// Reports what is remarked of a file, and how its dump ended. After a line that failed no other is tried.
+fn put_ended<E: DeviceOut>(
+    name: &[u8],
+    ended: Ended,
+    errors: &mut Watched<E>,
+) -> Result<(), WriteFailed>
+    ensures { Wrote E.DeviceOut errors.old errors.new
+        (spec.remark_lines name.now ended.remarks ++ spec.ending_lines name.now ended.ending) result }
+{
+    put_unknown(name, ended.remarks.unknown, errors)?;
+    put_ending(name, ended.ending, errors)
+}
+
 /// The status of a file, by how its dump ended.
 fn ending_status(ending: Ending) -> u8
     ensures value { result ≡ spec.ending_status ending }
@@ -112,24 +125,24 @@ fn ending_status(ending: Ending) -> u8
     }
 }
 
-/// Flushes a dump that ended so, and then reports what is wrong with its file. Answers the status. Where the output
-/// fails nothing is reported.
+/// Flushes a dump that ended so, and then reports what is remarked of its file and what is wrong with it. Answers the
+/// status. Where the output fails nothing is reported.
 fn end_dump<W: DeviceOut, E: DeviceOut>(
     name: &[u8],
-    ending: Ending,
+    ended: Ended,
     out: &mut Watched<W>,
     errors: &mut Watched<E>,
 ) -> Ends
-    ensures ends { spec.EndsDump W.DeviceOut name.now ending (change_of E.DeviceOut errors.old errors.new) out.old
+    ensures ends { spec.EndsDump W.DeviceOut name.now ended (change_of E.DeviceOut errors.old errors.new) out.old
         out.new result }
     ensures within { IfOk result (λ status. status ≤ statuses.DEVICE) }
 {
-    if let Ending::Output = ending {
+    if let Ending::Output = ended.ending {
         return Err(WriteFailed);
     }
     flush_out(out)?;
-    let _ = put_ending(name, ending, errors);
-    Ok(ending_status(ending))
+    let _ = put_ended(name, ended, errors);
+    Ok(ending_status(ended.ending))
 }
 
 impl<I: DeviceIn, W: DeviceOut> FileWork<I, W> for DumpWork {

@@ -77,7 +77,7 @@ kept_more b v None = refl
 kept_more b v (Some x) = refl
 
 abbrev with_both : State → List Slot → Option (List ℕ) → State
-with_both s slots setting = record { depth = s.depth; greatest = s.greatest; slots = slots; setting = setting }
+with_both s slots setting = record { depth = s.depth; greatest = s.greatest; slots = slots; setting = setting; unknown = s.unknown }
 
 pub bytes_taken : (s : State) (v : List ℕ) → fold next s (map value_byte v) ≡ record s { slots = map (λ (c : Slot). fold slot_step c (map value_byte v)) s.slots; setting = kept_after v s.setting }
 bytes_taken s [] = ap (λ (x : List Slot). with_both s x s.setting) (same_slots s.slots) ∙ ap (λ (x : Option (List ℕ)). with_both s (map (λ (c : Slot). c) s.slots) x) (kept_none s.setting)
@@ -154,7 +154,7 @@ same_columns [] s = refl
 same_columns (a ∷ atoms) s = same_columns atoms (next s a) ∙ ap (emptied s.greatest) (same_set a s.setting (slots_step (is_taken s.depth a) s.slots a) ∙ same_step (is_taken s.depth a) a s.slots)
   where
     emptied : Tag → List Slot → State
-    emptied greatest slots = record { depth = 0; greatest = greatest; slots = slots; setting = None }
+    emptied greatest slots = record { depth = 0; greatest = greatest; slots = slots; setting = None; unknown = false }
 
     same_each : (a : Atom) (slots : List Slot) → empty_slots (map (λ (c : Slot). slot_step c a) slots) ≡ empty_slots slots
     same_each a [] = refl
@@ -187,14 +187,14 @@ kept_on atoms old new e = ap cleared e ∙ same_columns atoms old
 
 -- and those that are emptied
 pub same_cleared : (s : State) → cleared (cleared s) ≡ cleared s
-same_cleared s = ap (λ (x : List Slot). let t : State = record { depth = 0; greatest = s.greatest; slots = x; setting = None } in t) (twice s.slots)
+same_cleared s = ap (λ (x : List Slot). let t : State = record { depth = 0; greatest = s.greatest; slots = x; setting = None; unknown = false } in t) (twice s.slots)
   where
     twice : (slots : List Slot) → empty_slots (empty_slots slots) ≡ empty_slots slots
     twice [] = refl
     twice (c ∷ slots) = ap (λ (x : List Slot). (c.0, missing, EMPTY) ∷ x) (twice slots)
 
 pub same_begun : (tags : List Tag) → cleared (begun tags) ≡ begun tags
-same_begun tags = ap (λ (x : List Slot). let t : State = record { depth = 0; greatest = greatest_of tags; slots = x; setting = None } in t) (empty tags)
+same_begun tags = ap (λ (x : List Slot). let t : State = record { depth = 0; greatest = greatest_of tags; slots = x; setting = None; unknown = false } in t) (empty tags)
   where
     empty : (tags : List Tag) → empty_slots (begun_slots tags) ≡ begun_slots tags
     empty [] = refl

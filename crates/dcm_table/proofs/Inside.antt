@@ -14,8 +14,13 @@ use Rattle.dcm_table.specs.Cell.{Cell, missing, open_value, open_too_long, whole
 use Rattle.dcm_table.specs.Shown.{settled, AllSettled}
 use Rattle.dcm_table.specs.TableSink.{Slot, State, next, slot_step}
 
-abbrev pub at : ℕ → Tag → List Slot → State
-at d g slots = record { depth = d; greatest = g; slots = slots; setting = None }
+-- what is the same within an element: the greatest tag of a column, and whether a value named what is not known
+pub record Mark : Type 0 where
+  pub greatest : Tag
+  pub unknown : Bool
+
+abbrev pub at : ℕ → Mark → List Slot → State
+at d g slots = record { depth = d; greatest = g.greatest; slots = slots; setting = None; unknown = g.unknown }
 
 -- ---- cells that are settled
 
@@ -58,7 +63,7 @@ few_deep n h = omega (arith, h)
 pub shallow : (lists : ℕ) (atoms : List Atom) → StaysShallow lists atoms → lists ≤ 64
 shallow lists atoms h = h [] atoms refl
 
-module _ (g : Tag) (slots : List Slot) (settles : AllSettled slots) where
+module _ (g : Mark) (slots : List Slot) (settles : AllSettled slots) where
   pub values_inside : (n : ℕ) (v : List ℕ) (more : List Atom) → Same (at n g slots) (map value_byte v ++ more) (at n g slots) more
   values_inside n [] more = refl
   values_inside n (b ∷ v) more =

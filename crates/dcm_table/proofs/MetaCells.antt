@@ -1,7 +1,7 @@
 -- The cells after the elements of a meta group.
 use Rattle.std.proofs.Common.{◌≡◌, ◌∙◌, sym, ap, refl, ℕ, List, [], ◌∷◌, length, map, fold}
 use Rattle.std.proofs.Common.{append_assoc}
-use Rattle.std.specs.Prelude.{Bool, true, false, ◌&&◌, if◌then◌else◌}
+use Rattle.std.specs.Prelude.{Bool, true, false, ◌&&◌, ◌||◌, if◌then◌else◌}
 use Rattle.std.proofs.Common.{arith}
 use Rattle.std.proofs.lemmas.Bool.Decides.{nat_tests}
 use Rattle.dcm_base.specs.Tables.Tag.{same_tag}
@@ -17,11 +17,12 @@ use Rattle.dcm_base.specs.File.MetaGroup.{AreMeta}
 use Rattle.dcm_base.specs.declared.vr.Vr.{Vr}
 use Rattle.dcm_text.specs.Sets.{sets_of}
 use Rattle.dcm_table.specs.InForce.{CHARACTER_SET, EMPTY, may_set, meta_sets, set_by}
-use Rattle.dcm_table.specs.Shown.{AllSettled, leaf_cell, meta_cell, meta_slots, settled}
+use Rattle.dcm_table.specs.Shown.{AllSettled, leaf_cell, meta_cell, meta_held, meta_slots, settled, trees_unknown}
 use Rattle.dcm_table.specs.TableSink.{Slot, next, begun, begun_slots, kept_or}
 use Rattle.dcm_table.proofs.Folds.{map_map}
-use Rattle.dcm_table.proofs.Inside.{at}
-use Rattle.dcm_table.proofs.Outside.{filled, filled_slot, filled_settled, filled_twice, filled_same, first_cell, first_sets, same_sets, or_none, leaf_here, leaf_sets, leaf_state, leaf_settled, leaf_cell_settled, leaf_first, leaf_first_sets}
+use Rattle.dcm_table.proofs.Inside.{Mark, at}
+use Rattle.dcm_table.proofs.Outside.{marked, trees_marked, same_greatest, unknown_marked, filled, filled_slot, filled_settled, filled_twice, filled_same, first_cell, first_sets, same_sets, or_none, leaf_here, leaf_sets, leaf_state, leaf_settled, leaf_cell_settled, leaf_first, leaf_first_sets}
+use Rattle.dcm_table.proofs.RowCells.{held_at}
 use Rattle.dcm_table.proofs.Settings.{kept_same}
 
 pub begun_settled : (tags : List Tag) → AllSettled (begun_slots tags)
@@ -34,8 +35,8 @@ cells_of e t = meta_cell t e
 abbrev sets_of_meta : Trees → Tag → Sets → Sets
 sets_of_meta e t z = meta_sets t z e
 
-elements_fill : (e : Trees) (g : Tag) (slots : List Slot) → AllSettled slots → fold next (at 0 g slots) (meta_atoms e) ≡ at 0 g (filled (cells_of e) (sets_of_meta e) slots)
-unfolding meta_cell meta_sets
+elements_fill : (e : Trees) (g : Mark) (slots : List Slot) → AllSettled slots → fold next (at 0 g slots) (meta_atoms e) ≡ at 0 (trees_marked g e) (filled (cells_of e) (sets_of_meta e) slots)
+unfolding meta_cell meta_sets trees_marked
 elements_fill no_tree g slots h = ap (at 0 g) (sym (all_stay slots))
   where
     all_stay : (slots : List Slot) → filled (λ (t : Tag). missing) same_sets slots ≡ slots
@@ -49,8 +50,8 @@ elements_fill (leaf tag vr value rest) g slots h =
     let to : Tag → Sets → Sets = leaf_sets tag vr value in
     ap (λ (x : List Atom). fold next (at 0 g slots) (opens tag vr (Known (length value)) META_SYNTAX ∷ x)) (append_assoc (map value_byte value) (closes_leaf ∷ []) (meta_atoms rest))
     ∙ leaf_state g slots META_SYNTAX tag vr value (meta_atoms rest) h
-    ∙ elements_fill rest g (filled here to slots) (filled_settled here to (leaf_settled META_SYNTAX tag vr value) slots h)
-    ∙ ap (at 0 g)
+    ∙ elements_fill rest (marked g tag vr value) (filled here to slots) (filled_settled here to (leaf_settled META_SYNTAX tag vr value) slots h)
+    ∙ ap (at 0 (trees_marked (marked g tag vr value) rest))
     (filled_twice here (cells_of rest) to (sets_of_meta rest) slots
     ∙ filled_same (first_cell here (cells_of rest)) (cells_of (leaf tag vr value rest)) (first_sets here to (sets_of_meta rest)) (sets_of_meta (leaf tag vr value rest))
     (λ (t : Tag). leaf_first META_SYNTAX tag vr value t (meta_cell t rest))
@@ -58,10 +59,17 @@ elements_fill (leaf tag vr value rest) g slots h =
 elements_fill (sequence tag vr declared items rest) g slots h = elements_fill rest g slots h
 elements_fill (fragments tag vr values rest) g slots h = elements_fill rest g slots h
 
-pub meta_fills : (tags : List Tag) (e : Trees) → fold next (begun tags) (meta_atoms e) ≡ at 0 (greatest_of tags) (meta_slots tags e)
+or_nothing : (b : Bool) → (b || false) ≡ b
+or_nothing true = refl
+or_nothing false = refl
+
+pub meta_fills : (tags : List Tag) (e : Trees) → fold next (begun tags) (meta_atoms e) ≡ held_at (greatest_of tags) (meta_held tags e)
 meta_fills tags e =
-    elements_fill e (greatest_of tags) (begun_slots tags) (begun_settled tags)
-    ∙ ap (at 0 (greatest_of tags)) (map_map (λ (t : Tag). let p : Slot = (t, missing, EMPTY) in p) (λ (c : Slot). filled_slot (cells_of e) (sets_of_meta e) c) tags)
+    let g : Mark = record { greatest = greatest_of tags; unknown = false } in
+    elements_fill e g (begun_slots tags) (begun_settled tags)
+    ∙ ap (λ (x : Tag). at 0 (record { greatest = x; unknown = (trees_marked g e).unknown }) (filled (cells_of e) (sets_of_meta e) (begun_slots tags))) (same_greatest g e)
+    ∙ ap (λ (x : Bool). at 0 (record { greatest = greatest_of tags; unknown = x }) (filled (cells_of e) (sets_of_meta e) (begun_slots tags))) (unknown_marked g e ∙ or_nothing (trees_unknown e))
+    ∙ ap (at 0 (record { greatest = greatest_of tags; unknown = trees_unknown e })) (map_map (λ (t : Tag). let p : Slot = (t, missing, EMPTY) in p) (λ (c : Slot). filled_slot (cells_of e) (sets_of_meta e) c) tags)
 
 cell_settled : (e : Trees) (t : Tag) → settled (meta_cell t e) ≡ meta_cell t e
 unfolding meta_cell

@@ -1,6 +1,6 @@
 -- What the cells make of the elements of the outermost level.
 use Rattle.std.proofs.Common.{◌≡◌, ◌∙◌, sym, ap, refl, ℕ, ◌<◌, ◌≤◌, List, [], ◌∷◌, ◌++◌, length, map, fold, arith, Option, None, Bool, true, false}
-use Rattle.std.specs.Prelude.{nat_le, nat_lt, if◌then◌else◌}
+use Rattle.std.specs.Prelude.{nat_le, nat_lt, ◌||◌, if◌then◌else◌}
 use Rattle.std.proofs.lemmas.Bool.{cases_lt, lt-ltb}
 use Rattle.std.proofs.lemmas.Bool.Decides.{nat_tests}
 use Rattle.std.proofs.lemmas.List.Sums.{fold-append}
@@ -27,13 +27,15 @@ use Rattle.dcm_base.proofs.Conversions.Order.{order_twice, length-order}
 use Rattle.dcm_text.specs.declared.sets.Sets.{Sets}
 use Rattle.dcm_table.specs.Cell.{Cell, missing, open_value, open_too_long, whole, too_long, not_shown, with_byte, with_head, ended, opened, opened_as, is_shown, shown_vr}
 use Rattle.dcm_table.specs.InForce.{is_setting, set_by}
-use Rattle.dcm_table.specs.Shown.{settled, AllSettled, cell_or, leaf_cell}
-use Rattle.dcm_table.specs.TableSink.{Slot, State, next, slot_step, kept_or, opens_setting, setting_opened}
+use Rattle.dcm_base.specs.Tree.Tree.{Trees, no_tree, leaf, sequence, fragments}
+use Rattle.dcm_sinks.specs.Unknown.{sets_unknown}
+use Rattle.dcm_table.specs.Shown.{settled, AllSettled, cell_or, leaf_cell, trees_unknown}
+use Rattle.dcm_table.specs.TableSink.{Slot, State, next, slot_step, kept_or, opens_setting, setting_opened, with_sets}
 use Rattle.dcm_table.proofs.CellSteps.{missing_stays, too_long_stays, whole_stays, long_stays, not_shown_stays, fits, passes}
 use Rattle.dcm_table.proofs.EachSlot.{bytes_taken, bytes_in_slot}
 use Rattle.dcm_table.proofs.Folds.{map_map}
-use Rattle.dcm_table.proofs.Inside.{at}
-use Rattle.dcm_table.proofs.Settings.{hidden_sets_nothing, kept_if, kept_leaf, kept_of, kept_same, kept_twice, named_by, set_each, set_slot}
+use Rattle.dcm_table.proofs.Inside.{Mark, at}
+use Rattle.dcm_table.proofs.Settings.{unknown_by, hidden_sets_nothing, kept_if, kept_leaf, kept_of, kept_same, kept_twice, named_by, set_each, set_slot}
 use Rattle.dcm_sinks.specs.SettingValue.{sets_with}
 
 -- ---- maps over slots
@@ -169,13 +171,44 @@ leaf_reads column c s tag vr value sets =
     ap (kept_or (cell_or c (leaf_here s tag vr value column)) sets) (named_by s tag vr value sets)
     ∙ kept_leaf c (same_tag tag column) (leaf_cell s tag vr value) sets (set_by tag vr value sets) (leaf_kept s tag vr value)
 
-abbrev pub on : ℕ → Tag → List Slot → Option (List ℕ) → State
-on d g slots setting = record { depth = d; greatest = g; slots = slots; setting = setting }
+abbrev pub on : ℕ → Mark → List Slot → Option (List ℕ) → State
+on d g slots setting = record { depth = d; greatest = g.greatest; slots = slots; setting = setting; unknown = g.unknown }
+
+-- behind a leaf
+abbrev pub marked : Mark → Tag → Vr → List ℕ → Mark
+marked g tag vr value = record { greatest = g.greatest; unknown = sets_unknown tag vr value || g.unknown }
+
+-- behind the elements of a data set
+unfoldable pub trees_marked : Mark → Trees → Mark
+trees_marked g no_tree = g
+trees_marked g (leaf tag vr value rest) = trees_marked (marked g tag vr value) rest
+trees_marked g (sequence tag vr declared items rest) = trees_marked g rest
+trees_marked g (fragments tag vr values rest) = trees_marked g rest
+
+pub same_greatest : (g : Mark) (t : Trees) → (trees_marked g t).greatest ≡ g.greatest
+unfolding trees_marked
+same_greatest g no_tree = refl
+same_greatest g (leaf tag vr value rest) = same_greatest (marked g tag vr value) rest
+same_greatest g (sequence tag vr declared items rest) = same_greatest g rest
+same_greatest g (fragments tag vr values rest) = same_greatest g rest
+
+one_more : (a b c : Bool) → (b || (a || c)) ≡ ((a || b) || c)
+one_more true true c = refl
+one_more true false c = refl
+one_more false b c = refl
+
+pub unknown_marked : (g : Mark) (t : Trees) → (trees_marked g t).unknown ≡ (trees_unknown t || g.unknown)
+unfolding trees_marked trees_unknown
+unknown_marked g no_tree = refl
+unknown_marked g (leaf tag vr value rest) = unknown_marked (marked g tag vr value) rest ∙ one_more (sets_unknown tag vr value) (trees_unknown rest) g.unknown
+unknown_marked g (sequence tag vr declared items rest) = unknown_marked g rest
+unknown_marked g (fragments tag vr values rest) = unknown_marked g rest
 
 -- the state after a leaf
-pub leaf_state : (g : Tag) (slots : List Slot) (s : Syntax) (tag : Tag) (vr : Vr) (value : List ℕ) (others : List Atom) → AllSettled slots
-    → fold next (at 0 g slots) (opens tag vr (Known (length value)) s ∷ (map value_byte (order s vr value) ++ closes_leaf ∷ others)) ≡ fold next (at 0 g (filled (leaf_here s tag vr value) (leaf_sets tag vr value) slots)) others
+pub leaf_state : (g : Mark) (slots : List Slot) (s : Syntax) (tag : Tag) (vr : Vr) (value : List ℕ) (others : List Atom) → AllSettled slots
+    → fold next (at 0 g slots) (opens tag vr (Known (length value)) s ∷ (map value_byte (order s vr value) ++ closes_leaf ∷ others)) ≡ fold next (at 0 (marked g tag vr value) (filled (leaf_here s tag vr value) (leaf_sets tag vr value) slots)) others
 leaf_state g slots s tag vr value others h =
+    let m : Mark = marked g tag vr value in
     let head : Atom = opens tag vr (Known (length value)) s in
     let w : List ℕ = order s vr value in
     let opening : Slot → Slot = λ (c : Slot). slot_step c head in
@@ -186,11 +219,12 @@ leaf_state g slots s tag vr value others h =
     let behind : Slot → Slot = λ (c : Slot). set_slot kept c in
     fold-append next (on 1 g (map opening slots) setting) (map value_byte w) (closes_leaf ∷ others)
     ∙ ap (λ (t : State). fold next t (closes_leaf ∷ others)) (bytes_taken (on 1 g (map opening slots) setting) w)
-    ∙ ap (λ (x : List Slot). fold next (at 0 g x) others) (set_each kept (map closing (map taking (map opening slots))))
-    ∙ ap (λ (x : List Slot). fold next (at 0 g (map behind (map closing x))) others) (map_map opening taking slots)
-    ∙ ap (λ (x : List Slot). fold next (at 0 g (map behind x)) others) (map_map (λ (c : Slot). taking (opening c)) closing slots)
-    ∙ ap (λ (x : List Slot). fold next (at 0 g x) others) (map_map (λ (c : Slot). closing (taking (opening c))) behind slots)
-    ∙ ap (λ (x : List Slot). fold next (at 0 g x) others)
+    ∙ ap (λ (x : Bool). fold next (at 0 (record { greatest = g.greatest; unknown = x || g.unknown }) (with_sets kept (map closing (map taking (map opening slots))))) others) (unknown_by s tag vr value)
+    ∙ ap (λ (x : List Slot). fold next (at 0 m x) others) (set_each kept (map closing (map taking (map opening slots))))
+    ∙ ap (λ (x : List Slot). fold next (at 0 m (map behind (map closing x))) others) (map_map opening taking slots)
+    ∙ ap (λ (x : List Slot). fold next (at 0 m (map behind x)) others) (map_map (λ (c : Slot). taking (opening c)) closing slots)
+    ∙ ap (λ (x : List Slot). fold next (at 0 m x) others) (map_map (λ (c : Slot). closing (taking (opening c))) behind slots)
+    ∙ ap (λ (x : List Slot). fold next (at 0 m x) others)
     (alike (λ (c : Slot). behind (closing (taking (opening c)))) (λ (c : Slot). filled_slot (leaf_here s tag vr value) (leaf_sets tag vr value) c)
     (λ (c : Slot) (e : settled c.1 ≡ c.1).
     ap (λ (d : Slot). behind (closing d)) (bytes_in_slot (opening c) w)
@@ -289,7 +323,7 @@ list_makes column too_long s tag vr declared e = refl
 list_makes column not_shown s tag vr declared e = refl
 
 -- the state after its head
-pub list_state : (g : Tag) (slots : List Slot) (s : Syntax) (tag : Tag) (vr : Vr) (declared : Length) (others : List Atom) → opened s tag vr declared ≡ not_shown → opens_setting tag vr declared ≡ false
+pub list_state : (g : Mark) (slots : List Slot) (s : Syntax) (tag : Tag) (vr : Vr) (declared : Length) (others : List Atom) → opened s tag vr declared ≡ not_shown → opens_setting tag vr declared ≡ false
     → fold next (at 0 g slots) (opens tag vr declared s ∷ others) ≡ fold next (at 1 g (filled (list_here tag) same_sets slots)) others
 list_state g slots s tag vr declared others e none =
     ap (λ (t : Bool). fold next (on 1 g (map (λ (c : Slot). slot_step c (opens tag vr declared s)) slots) (setting_opened t None)) others) none
@@ -346,7 +380,7 @@ abbrev settled_slot : Slot → Slot
 settled_slot c = (c.0, settled c.1, c.2)
 
 -- the cells after its bytes so far
-pub part_state : (g : Tag) (slots : List Slot) (s : Syntax) (tag : Tag) (vr : Vr) (size : ℕ) (v : List ℕ) → AllSettled slots
+pub part_state : (g : Mark) (slots : List Slot) (s : Syntax) (tag : Tag) (vr : Vr) (size : ℕ) (v : List ℕ) → AllSettled slots
     → map settled_slot (fold next (at 0 g slots) (opens tag vr (Known size) s ∷ map value_byte v)).slots ≡ filled (list_here tag) same_sets slots
 part_state g slots s tag vr size v h =
     let opening : Slot → Slot = λ (c : Slot). slot_step c (opens tag vr (Known size) s) in

@@ -1,6 +1,6 @@
 -- Leaves that set what is in force.
 use Rattle.std.proofs.Common.{◌≡◌, ◌∙◌, sym, ap, refl, ℕ, ◌<◌, ◌≤◌, List, [], ◌∷◌, ◌++◌, length, take, map, fold, append_assoc, Option, Some, None, Bool, true, false}
-use Rattle.std.specs.Prelude.{nat_lt, cond, option_map, if◌then◌else◌}
+use Rattle.std.specs.Prelude.{nat_lt, cond, not, ◌&&◌, option_map, if◌then◌else◌}
 use Rattle.std.proofs.lemmas.Bool.{lt-ltb, le-ltb, cases_lt}
 use Rattle.std.proofs.lemmas.List.{append-nil, length-append, take_all, take-append-le, length-take-le}
 use mathlib.Core.Logic.{⊎_elim}
@@ -20,13 +20,14 @@ use Rattle.dcm_base.specs.Tables.Tag.{same_tag}
 use Rattle.dcm_base.specs.Tree.Value.{order, turned}
 use Rattle.dcm_base.proofs.Conversions.OrderLaws.{turned_bytes}
 use Rattle.dcm_text.specs.declared.sets.Sets.{Sets}
-use Rattle.dcm_text.specs.Sets.{sets_of, of_first, of_terms, terms_of}
+use Rattle.dcm_text.specs.Sets.{is_known, sets_of, of_first, of_terms, terms_of}
 use Rattle.dcm_table.specs.Cell.{Cell, missing, open_value, open_too_long, whole, too_long, not_shown, is_shown, shown_vr}
 use Rattle.dcm_table.specs.InForce.{CHARACTER_SET, is_setting, may_set, set_by}
 use Rattle.dcm_table.specs.Shown.{cell_or}
 use Rattle.dcm_table.specs.TableSink.{Slot, kept_or, with_sets, with_setting_byte, setting_opened}
-use Rattle.dcm_sinks.specs.SettingValue.{sets_with}
-use Rattle.dcm_sinks.proofs.DecodedDumps.Settings.{kept_names, in_order}
+use Rattle.dcm_sinks.specs.SettingValue.{names_unknown, sets_with}
+use Rattle.dcm_sinks.specs.Unknown.{sets_unknown}
+use Rattle.dcm_sinks.proofs.DecodedDumps.Settings.{kept_known, kept_names, in_order}
 
 -- ---- what may set
 
@@ -41,7 +42,16 @@ named_by s tag vr value sets = by_test (is_setting tag vr) refl
     by_test true e = kept_names (order s vr value) ∙ ap sets_of (in_order s vr value (and_second (same_tag tag CHARACTER_SET) (may_set vr) e))
     by_test false e = refl
 
--- ---- columns whose and_first element is still to come
+-- whether it names what is not known
+pub unknown_by : (s : Syntax) (tag : Tag) (vr : Vr) (value : List ℕ) → names_unknown (kept_of s tag vr value) ≡ sets_unknown tag vr value
+unknown_by s tag vr value = by_test (is_setting tag vr) refl
+  where
+    by_test : (t : Bool) → is_setting tag vr ≡ t
+        → names_unknown (option_map (λ (x : List ℕ). fold with_setting_byte x (order s vr value)) (setting_opened t None)) ≡ (t && not (is_known value))
+    by_test true e = ap not (kept_known (order s vr value) ∙ ap is_known (in_order s vr value (and_second (same_tag tag CHARACTER_SET) (may_set vr) e)))
+    by_test false e = refl
+
+-- ---- columns whose first element is still to come
 
 pub kept_same : (c : Cell) (x : Sets) → kept_or c x x ≡ x
 kept_same missing x = refl

@@ -26,31 +26,34 @@ use Rattle.dcm_table.specs.InForce.{meta_sets}
 use Rattle.dcm_table.specs.Meta.{meta_atoms}
 use Rattle.dcm_table.specs.Parts.{SpellsParts}
 use Rattle.dcm_table.specs.Row.{cell_parts, row_parts}
-use Rattle.dcm_table.specs.Shown.{AllSettled, meta_slots, settled_slots, slots_with, table_bar}
-use Rattle.dcm_table.specs.TableSink.{Slot, begun, next, table_bar_of}
+use Rattle.dcm_table.specs.Shown.{AllSettled, Held, held_by, held_with, meta_held, meta_slots, table_bar}
+use Rattle.dcm_table.specs.TableSink.{Slot, State, begun, next, table_bar_of}
+
+-- the cells between two elements of the outermost level
+abbrev pub state_with : (greatest : Tag) → Held → State
+state_with greatest held =
+    record { depth = 0; greatest = greatest; slots = held.slots; setting = None; unknown = held.unknown }
 
 -- after the elements of a meta group the cells hold, of each column, the first of its tag
 abbrev pub MetaSteps : Type 0
 MetaSteps =
     (tags : List Tag) (elements : Trees) → fold next (begun tags) (meta_atoms elements)
-    ≡ record { depth = 0; greatest = greatest_of tags; slots = meta_slots tags elements; setting = None }
+    ≡ state_with (greatest_of tags) (meta_held tags elements)
 
 -- after what was read of a data set, whole or as far as it was read, they hold the first of its tag where there was none
--- before
+-- before, and know whether a value of Specific Character Set named what is not known
 abbrev pub RowSteps : Type 0
 RowSteps =
-    (greatest : Tag) (slots : List Slot) (bar : Bar) (s : Syntax) (start : ℕ) (bytes : List ℕ) (f : Front) (stop : Stop)
-    → AllSettled slots → StaysShallow 0 (front_atoms s f) → Reads bar s start bytes f stop
-    → settled_slots (fold next (record { depth = 0; greatest = greatest; slots = slots; setting = None })
-    (front_atoms s f)).slots ≡ slots_with s f slots
+    (greatest : Tag) (held : Held) (bar : Bar) (s : Syntax) (start : ℕ) (bytes : List ℕ) (f : Front) (stop : Stop)
+    → AllSettled held.slots → StaysShallow 0 (front_atoms s f) → Reads bar s start bytes f stop
+    → held_by (fold next (state_with greatest held) (front_atoms s f)) ≡ held_with s f held
 
 -- the cells bar a head exactly where it is one of the outermost level and above the greatest column
 abbrev pub TableBarSteps : Type 0
 TableBarSteps =
-    (greatest : Tag) (slots : List Slot) (f : Front) (atoms : List Atom) (tag : Tag) (vr : Vr) (declared : Length)
-    → AllSettled slots → StaysShallow 0 atoms → Shows f atoms
-    → bars_by table_bar_of next (record { depth = 0; greatest = greatest; slots = slots; setting = None }) atoms tag vr
-    declared ≡ table_bar greatest f tag vr declared
+    (greatest : Tag) (held : Held) (f : Front) (atoms : List Atom) (tag : Tag) (vr : Vr) (declared : Length)
+    → AllSettled held.slots → StaysShallow 0 atoms → Shows f atoms
+    → bars_by table_bar_of next (state_with greatest held) atoms tag vr declared ≡ table_bar greatest f tag vr declared
 
 -- no value is on its way after the elements of a meta group
 abbrev pub MetaSettles : Type 0

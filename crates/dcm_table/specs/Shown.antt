@@ -1,5 +1,6 @@
 -- What a row shows of what was read of a file.
-use Rattle.std.specs.Prelude.{◌≡◌, ℕ, zero, suc, nat_le, length, List, [], ◌∷◌, map, fold, Bool, true, false, if◌then◌else◌, Option, Some, None}
+use Rattle.std.specs.Prelude.{◌≡◌, ℕ, zero, suc, nat_le, length, List, [], ◌∷◌, map, fold, Bool, true, false, ◌||◌}
+use Rattle.std.specs.Prelude.{if◌then◌else◌, Option, Some, None}
 use Rattle.dcm_base.specs.declared.tag.Tag.{Tag}
 use Rattle.dcm_base.specs.declared.vr.Vr.{Vr}
 use Rattle.dcm_base.specs.declared.syntax.Syntax.{Syntax}
@@ -16,7 +17,8 @@ use Rattle.dcm_table.specs.Cell.{Cell, missing, open_value, open_too_long, whole
 use Rattle.dcm_table.specs.Ending.{DECIDED}
 use Rattle.dcm_table.specs.Meta.{META_SYNTAX}
 use Rattle.dcm_table.specs.InForce.{EMPTY, front_sets, meta_sets}
-use Rattle.dcm_table.specs.TableSink.{Slot, kept_or}
+use Rattle.dcm_sinks.specs.Unknown.{sets_unknown}
+use Rattle.dcm_table.specs.TableSink.{Slot, State, kept_or}
 
 -- ---- the cell of a tag
 
@@ -84,6 +86,39 @@ slots_with s f slots =
 -- the cells with the elements of a meta group
 abbrev pub meta_slots : List Tag → Trees → List Slot
 meta_slots tags elements = map (λ (t : Tag). (t, meta_cell t elements, meta_sets t EMPTY elements)) tags
+
+-- ---- whether a value of Specific Character Set named what is not known
+
+-- one of a leaf of this level
+unfoldable pub trees_unknown : Trees → Bool
+trees_unknown no_tree = false
+trees_unknown (leaf tag vr value rest) = sets_unknown tag vr value || trees_unknown rest
+trees_unknown (sequence tag vr declared items rest) = trees_unknown rest
+trees_unknown (fragments tag vr values rest) = trees_unknown rest
+
+-- of a data set as far as it was read: a value that is not whole names nothing
+abbrev pub front_unknown : Front → Bool
+front_unknown (front trees open_tree reached closed) = trees_unknown trees
+
+-- ---- what a row needs of a file
+
+-- the cells of the columns, and whether such a value was read
+pub record Held : Type 0 where
+  pub slots : List Slot
+  pub unknown : Bool
+
+-- as they stand where reading ends
+abbrev pub held_by : State → Held
+held_by s = record { slots = settled_slots s.slots; unknown = s.unknown }
+
+-- of the elements of a meta group
+abbrev pub meta_held : List Tag → Trees → Held
+meta_held tags elements = record { slots = meta_slots tags elements; unknown = trees_unknown elements }
+
+-- and then of what was read of a data set
+abbrev pub held_with : Syntax → Front → Held → Held
+held_with s f held =
+    record { slots = slots_with s f held.slots; unknown = front_unknown f || held.unknown }
 
 -- ---- how far a file is read
 

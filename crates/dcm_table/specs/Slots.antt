@@ -32,6 +32,11 @@ slot_of slot = (slot.tag, cell_of slot.progress (value_of slot), slot.sets)
 abbrev pub slots_of : List HeldSlot → List Slot
 slots_of slots = map slot_of slots
 
-abbrev pub state_by : Skip → (greatest : Tag) → List HeldSlot → Setting → State
-state_by skip greatest slots setting =
-    record { depth = depth skip; greatest = greatest; slots = slots_of slots; setting = setting_of setting }
+abbrev pub state_by : Skip → (greatest : Tag) → List HeldSlot → Setting → (unknown : Bool) → State
+state_by skip greatest slots setting unknown = record {
+  depth = depth skip;
+  greatest = greatest;
+  slots = slots_of slots;
+  setting = setting_of setting;
+  unknown = unknown;
+}

@@ -1,5 +1,5 @@
 -- The cells of all columns, over the atoms of a data set.
-use Rattle.std.specs.Prelude.{ℕ, zero, suc, nat_lt, length, List, [], ◌∷◌, ◌++◌, map, Bool, true, false, ◌&&◌, if◌then◌else◌}
+use Rattle.std.specs.Prelude.{ℕ, zero, suc, nat_lt, length, List, [], ◌∷◌, ◌++◌, map, Bool, true, false, ◌&&◌, ◌||◌, if◌then◌else◌}
 use Rattle.std.specs.Prelude.{Option, Some, None, option_map}
 use Rattle.dcm_base.specs.declared.tag.Tag.{Tag}
 use Rattle.dcm_base.specs.declared.vr.Vr.{Vr}
@@ -17,6 +17,7 @@ use Rattle.dcm_text.specs.Sets.{sets_of}
 use Rattle.dcm_table.specs.Cell.{Cell, missing, cell_step}
 use Rattle.dcm_table.specs.Columns.{greatest_of}
 use Rattle.dcm_table.specs.InForce.{EMPTY, is_setting}
+use Rattle.dcm_sinks.specs.SettingValue.{names_unknown}
 pub use Rattle.dcm_sinks.specs.SettingValue.{with_setting_byte}
 
 -- a column's tag, its cell, and what is in force where its first element stands: behind all of them where there is none
@@ -24,19 +25,21 @@ abbrev pub Slot : Type 0
 Slot = Tag × Cell × Sets
 
 -- how many elements, items and fragments are open; the greatest tag of a column; the columns; the value on its way of an
--- element that sets what is in force, where there is one
+-- element that sets what is in force, where there is one; whether an earlier one named what is not known
 pub record State : Type 0 where
   pub depth : ℕ
   pub greatest : Tag
   pub slots : List Slot
   pub setting : Option (List ℕ)
+  pub unknown : Bool
 
 abbrev pub begun_slots : List Tag → List Slot
 begun_slots tags = map (λ (t : Tag). (t, missing, EMPTY)) tags
 
 -- nothing was read of a file
 abbrev pub begun : List Tag → State
-begun tags = record { depth = 0; greatest = greatest_of tags; slots = begun_slots tags; setting = None }
+begun tags =
+    record { depth = 0; greatest = greatest_of tags; slots = begun_slots tags; setting = None; unknown = false }
 
 -- the same columns, where nothing was read
 abbrev pub cleared : State → State
@@ -45,6 +48,7 @@ cleared s = record {
   greatest = s.greatest;
   slots = map (λ (c : Slot). (c.0, missing, EMPTY)) s.slots;
   setting = None;
+  unknown = false;
 }
 
 abbrev pub slot_step : Slot → Atom → Slot
@@ -123,6 +127,17 @@ setting_step n setting closes_sequence = setting
 setting_step n setting (opens_fragment size) = setting
 setting_step n setting ends = setting
 
+-- whether a value that is whole named what is not known
+abbrev pub unknown_step : Option (List ℕ) → Bool → Atom → Bool
+unknown_step setting unknown (opens tag vr declared s) = unknown
+unknown_step setting unknown (value_byte b) = unknown
+unknown_step setting unknown closes_leaf = names_unknown setting || unknown
+unknown_step setting unknown (opens_item declared) = unknown
+unknown_step setting unknown closes_item = unknown
+unknown_step setting unknown closes_sequence = unknown
+unknown_step setting unknown (opens_fragment size) = unknown
+unknown_step setting unknown ends = unknown
+
 -- ---- all of it
 
 abbrev pub next : State → Atom → State
@@ -131,6 +146,7 @@ next s a = record {
   greatest = s.greatest;
   slots = slots_set s.setting (slots_step (is_taken s.depth a) s.slots a) a;
   setting = setting_step s.depth s.setting a;
+  unknown = unknown_step s.setting s.unknown a;
 }
 
 -- after an element with its whole value that changes no cell
@@ -140,6 +156,7 @@ passed_by s = record {
   greatest = s.greatest;
   slots = s.slots;
   setting = s.setting;
+  unknown = s.unknown;
 }
 
 -- nothing is written

@@ -1,5 +1,5 @@
 // The cells of all columns: a sink that holds what a row shows of a file.
-ghost use Rattle.std.specs.Prelude.{◌≡◌, ◌<◌, ℕ, List, true, false, None, length, fold, map, option_map, IfOk};
+ghost use Rattle.std.specs.Prelude.{◌≡◌, ◌<◌, ◌||◌, ℕ, List, true, false, None, length, fold, map, option_map, IfOk};
 ghost use Rattle.dcm_table.specs.Cell.{missing};
 ghost use Rattle.std.specs.List.{list_any};
 ghost use Rattle.dcm_base.specs.Tables.Tag.{same_tag};
@@ -13,6 +13,7 @@ ghost use Rattle.dcm_table.specs.Index as places;
 ghost use Rattle.dcm_table.specs.Row as row;
 ghost use Rattle.dcm_table.specs.InForce.{EMPTY};
 ghost use Rattle.dcm_table.specs.Slots.{slot_of, slots_of};
+ghost use Rattle.dcm_sinks.specs.SettingValue.{names_unknown};
 ghost use Rattle.dcm_table.specs.TableSink as spec;
 
 use crate::column::{Column, Columns};
@@ -28,7 +29,8 @@ use std::alloc::{AllocError, Global};
 use std::marker::Model;
 
 /// The cells of a table's columns: of each the first element of its tag at the outermost level of a file. They are
-/// the sink of a machine that reads it. They bar the first head of that level whose tag is above all columns.
+/// the sink of a machine that reads it. They bar the first head of that level whose tag is above all columns. They also
+/// keep whether a value of Specific Character Set named what is not known.
 #[derive(Drop)]
 pub struct Cells {
     slots: Vec<Slot>,
@@ -37,6 +39,7 @@ pub struct Cells {
     index: Index,
     busy: Span,
     setting: Setting,
+    unknown: bool,
     ghost indexed: { places.has_each index 0 (slots_of slots.items) ≡ true },
     ghost idle: { places.holds_busy busy 0 (slots_of slots.items) ≡ true },
 }
@@ -47,7 +50,7 @@ impl Model for Cells {
 
     ghost Value = { State };
 
-    ghost view = { λ c. state_by c.depth c.greatest c.slots.items c.setting };
+    ghost view = { λ c. state_by c.depth c.greatest c.slots.items c.setting c.unknown };
 }
 
 /// An empty cell for each column.
@@ -139,6 +142,7 @@ impl Cells {
             index,
             busy: Span::NONE,
             setting: Setting::new(),
+            unknown: false,
         })
     }
 
@@ -149,7 +153,15 @@ impl Cells {
         self.depth = Skip::nothing();
         self.busy = Span::NONE;
         self.setting.close();
+        self.unknown = false;
         clear_each(self.slots.as_mut_slice());
+    }
+
+    /// Whether a value of Specific Character Set that was read named what is not known.
+    pub fn has_unknown(&self) -> bool
+        ensures { result ≡ self.now.unknown }
+    {
+        self.unknown
     }
 
     /// How many columns there are.
@@ -221,9 +233,11 @@ impl Cells {
         ensures { self.new ≡ record self.old {
           slots = spec.with_sets self.old.setting self.old.slots;
           setting = None;
+          unknown = names_unknown self.old.setting || self.old.unknown;
         } }
     {
         if let Some(sets) = self.setting.sets() {
+            self.unknown = self.setting.names_unknown() || self.unknown;
             set_each(self.slots.as_mut_slice(), sets);
             self.setting.close();
         }

@@ -18,6 +18,7 @@ pub fn meta_steps()
 /// force.
 ///
 /// - This holds where reading stops at a fault too.
+/// - The cells know whether an outermost Specific Character Set names an unknown character set.
 pub fn row_steps()
     ensures { RowSteps }
 {}

@@ -1,5 +1,5 @@
 -- Lines that are written one after another.
-use Rattle.std.proofs.Common.{◌≡◌, ◌∙◌, ap, sym, subst, refl, ℕ, zero, suc, ◌+◌, ◌<◌, ◌≤◌, List, [], ◌∷◌, ◌++◌, append_assoc, length, take, drop, true, false, Option, Result, Err, arith}
+use Rattle.std.proofs.Common.{◌≡◌, ◌∙◌, ap, sym, subst, refl, ℕ, zero, suc, ◌+◌, ◌<◌, ◌≤◌, List, [], ◌∷◌, ◌++◌, append_assoc, length, take, drop, Bool, true, false, Option, Result, Err, arith}
 use Rattle.std.specs.Prelude.{IsErr, flat_map, option_to_list, Some, None, is_some}
 use Rattle.std.specs.Io.KnownBytes.{append_known}
 use Rattle.std.proofs.lemmas.List.{append-nil}
@@ -7,10 +7,11 @@ use Rattle.dcm_lemmas.proofs.Options.{known_nothing, known_twice}
 use Rattle.dcm_base.specs.declared.tag.Tag.{Tag}
 use Rattle.dcm_devices.specs.Device.{AppendsFront, Puts}
 use Rattle.dcm_devices.proofs.Writes.Puts.{front_longer, puts_behind, puts_err}
-use Rattle.dcm_names.specs.NamedLines.{too_long_line}
+use Rattle.dcm_names.specs.NamedLines.{too_long_line, unknown_lines}
+use Rattle.dcm_table.specs.declared.ending.RowEnd.{RowEnd}
 use Rattle.dcm_table.specs.Row.{reported, slot_at}
 use Rattle.dcm_table.specs.TableSink.{Slot}
-use Rattle.dcm_tables.specs.Rows.{long_lines, long_tags, long_status}
+use Rattle.dcm_tables.specs.Rows.{end_lines, long_lines, long_tags, long_status}
 
 -- ---- bytes in parts
 
@@ -89,3 +90,7 @@ tag_skipped (Some t) tags e = cc
 pub tag_found : (r : Option Tag) (tags : List Tag) → is_some r ≡ true → long_status (option_to_list r ++ tags) ≡ 2
 tag_found None tags e = cc
 tag_found (Some t) tags e = refl
+
+-- the lines behind those of values that are too long
+abbrev pub last_lines : (name : List ℕ) → (unknown : Bool) → RowEnd → List ℕ
+last_lines name unknown end = unknown_lines name unknown ++ end_lines name end

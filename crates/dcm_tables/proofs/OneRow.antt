@@ -22,8 +22,7 @@ use Rattle.dcm_stream.proofs.Steps.Follows.{answers}
 use Rattle.dcm_table.specs.declared.ending.RowEnd.{RowEnd}
 use Rattle.dcm_table.specs.declared.ending.RowEnd.TheVariants.{Refused}
 use Rattle.dcm_table.specs.Columns.{greatest_of}
-use Rattle.dcm_table.specs.Shown.{meta_slots, slots_with, table_bar, tabled}
-use Rattle.dcm_table.specs.TableSink.{Slot}
+use Rattle.dcm_table.specs.Shown.{Held, held_with, meta_held, table_bar, tabled}
 use Rattle.dcm_table.proofs.BarAtoms.{tabled_bars}
 use Rattle.dcm_cli.specs.Answer.{HeadIs, set_at}
 use Rattle.dcm_cli.specs.Pass.{head_read}
@@ -71,10 +70,10 @@ one_set columns bytes m n g h c d f k stop other x y =
     let one = reads_once (table_bar (greatest_of columns)) c.syntax (set_at g) (drop (set_at g) bytes) f k stop other x.reads there in
     record { metas = a.metas; codings = a.codings; fronts = one.0; stops = one.1 }
 
-pub one_row : (columns : List Tag) (bytes : List ℕ) (cells others : List Slot) (end other : RowEnd) → RowOf columns bytes cells end → RowOf columns bytes others other → (cells ≡ others) × (end ≡ other)
+pub one_row : (columns : List Tag) (bytes : List ℕ) (cells others : Held) (end other : RowEnd) → RowOf columns bytes cells end → RowOf columns bytes others other → (cells ≡ others) × (end ≡ other)
 one_row columns bytes cells others end other (of_meta f n e head shows c x) (of_meta f' n' e' head' shows' c' x') =
     let same = refused_alike f f' n n' (one_meta bytes (meta_refused f n) (meta_refused f' n') head head') in (
-      c ∙ ap (meta_slots columns) (shows_once bytes e e' shows shows') ∙ sym c',
+      c ∙ ap (meta_held columns) (shows_once bytes e e' shows shows') ∙ sym c',
       x ∙ (λ i. Refused (record { fault = same.0 i; at = same.1 i })) ∙ sym x',
     )
 one_row columns bytes cells others end other (of_meta f n e head shows c x) (of_set m group coding set stop k c' x') =
@@ -83,26 +82,26 @@ one_row columns bytes cells others end other (of_set m group coding set stop k c
     absurd (never_begins f n m group k.head.named (one_meta bytes (meta_refused f n) (begins m group k.head.named) head k.head.head))
 one_row columns bytes cells others end other (of_set m g coding f stop k c x) (of_set m' g' coding' f' stop' k' c' x') =
     let one = one_set columns bytes m m' g g' coding coding' f f' stop stop' k k' in (
-      c ∙ (λ i. (let d : Coding = one.codings i in let n : Meta = one.metas i in slots_with d.syntax (one.fronts i) (meta_slots columns n.elements))) ∙ sym c',
+      c ∙ (λ i. (let d : Coding = one.codings i in let n : Meta = one.metas i in held_with d.syntax (one.fronts i) (meta_held columns n.elements))) ∙ sym c',
       x ∙ ap end_of one.stops ∙ sym x',
     )
 
 -- ---- at least one
 
-pub some_row : (columns : List Tag) (bytes : List ℕ) → (cells : List Slot) × (end : RowEnd) × RowOf columns bytes cells end
+pub some_row : (columns : List Tag) (bytes : List ℕ) → (cells : Held) × (end : RowEnd) × RowOf columns bytes cells end
 some_row columns bytes = let t = told (head_read bytes) bytes (described bytes) in by_head t.answer t.reads
   where
-    by_head : (said : MetaAnswer) → MetaReads bytes said → (cells : List Slot) × (end : RowEnd) × RowOf columns bytes cells end
+    by_head : (said : MetaAnswer) → MetaReads bytes said → (cells : Held) × (end : RowEnd) × RowOf columns bytes cells end
     by_head (meta_refused fault offset) head =
         let x = shown (meta_finished (head_read bytes)) bytes refl in
-        (meta_slots columns x.elements, Refused (record { fault = fault; at = offset }), of_meta fault offset x.elements head x.shows refl refl)
+        (meta_held columns x.elements, Refused (record { fault = fault; at = offset }), of_meta fault offset x.elements head x.shows refl refl)
     by_head (begins m group named) head =
         let coding : Coding = coding_by Standard named in
         let small = (group_spelled bytes m group named head).2 in
         let g : Tag = greatest_of columns in
         let a = answers (tabled g) (table_bar g) (tabled_bars g) coding.syntax (set_at group) (drop (set_at group) bytes) (omega (arith, small)) in
         let stop : Stop = finish (read_all (tabled g) coding.syntax (set_at group) (drop (set_at group) bytes)).0 in (
-          slots_with coding.syntax a.f (meta_slots columns m.elements),
+          held_with coding.syntax a.f (meta_held columns m.elements),
           end_of stop,
           of_set m group coding a.f stop (record { head = record { named = named; head = head; coding_is = refl }; reads = a.reads }) refl refl,
         )

@@ -30,7 +30,7 @@ use Rattle.dcm_table.specs.Laws.{AllHoldBytes, HoldsBytes as CellHolds, is_valid
 use Rattle.dcm_table.specs.Meta.{META_SYNTAX}
 use Rattle.dcm_table.specs.Parts.{SpellsParts}
 use Rattle.dcm_table.specs.Row.{row_parts}
-use Rattle.dcm_table.specs.Shown.{cell_or, front_cell, leaf_cell, meta_cell, meta_slots, open_cell, slots_with, trees_cell}
+use Rattle.dcm_table.specs.Shown.{Held, cell_or, front_cell, leaf_cell, meta_cell, meta_slots, open_cell, slots_with, trees_cell}
 use Rattle.dcm_table.specs.TableSink.{Slot}
 use Rattle.dcm_table.proofs.ValidRows.{row_valid}
 use Rattle.dcm_cli.specs.Answer.{set_at}
@@ -125,14 +125,14 @@ head_shows bytes m group named head =
     (trees_same Little x.elements m.elements group [] [] here (group_spelled bytes m group named head).0 (at_end_NoElement Little) (at_end_NoElement Little)).0 in
     subst (ShowsMeta bytes) same x.shows
 
-pub row_holds : (columns : List Tag) (bytes : List ℕ) (cells : List Slot) (end : RowEnd) → AreBytes bytes → RowOf columns bytes cells end → AllHoldBytes cells
-row_holds columns bytes cells end are (of_meta fault offset elements head shows is ends) = subst AllHoldBytes (sym is) (meta_hold columns elements (shows_hold bytes elements shows (bytes_of bytes are)))
+pub row_holds : (columns : List Tag) (bytes : List ℕ) (cells : Held) (end : RowEnd) → AreBytes bytes → RowOf columns bytes cells end → AllHoldBytes cells.slots
+row_holds columns bytes cells end are (of_meta fault offset elements head shows is ends) = subst (λ (held : Held). AllHoldBytes held.slots) (sym is) (meta_hold columns elements (shows_hold bytes elements shows (bytes_of bytes are)))
 row_holds columns bytes cells end are (of_set m group coding f stop x is ends) =
     let all : Bytes bytes = bytes_of bytes are in
-    subst AllHoldBytes (sym is)
+    subst (λ (held : Held). AllHoldBytes held.slots) (sym is)
     (slots_hold columns m.elements coding.syntax f (shows_hold bytes m.elements (head_shows bytes m group x.head.named x.head.head) all)
     (λ column. set_holds _ coding.syntax (set_at group) (drop (set_at group) bytes) f stop column x.reads (Bytes-drop (set_at group) bytes all)))
 
-pub rows_valid : (columns : List Tag) (form : TextForm) (name bytes : List ℕ) (cells : List Slot) (end : RowEnd) (text : List ℕ) → is_valid_form form ≡ true → AreBytes name → AreBytes bytes → RowOf columns bytes cells end
-    → SpellsParts (row_parts form name cells) text → IsUtf8 text
-rows_valid columns form name bytes cells end text valid named are row spelled = row_valid form name cells text valid named (row_holds columns bytes cells end are row) spelled
+pub rows_valid : (columns : List Tag) (form : TextForm) (name bytes : List ℕ) (cells : Held) (end : RowEnd) (text : List ℕ) → is_valid_form form ≡ true → AreBytes name → AreBytes bytes → RowOf columns bytes cells end
+    → SpellsParts (row_parts form name cells.slots) text → IsUtf8 text
+rows_valid columns form name bytes cells end text valid named are row spelled = row_valid form name cells.slots text valid named (row_holds columns bytes cells end are row) spelled

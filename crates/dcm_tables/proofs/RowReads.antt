@@ -1,5 +1,5 @@
 -- What was read of a file, and its row.
-use Rattle.std.proofs.Common.{◌≡◌, ◌∙◌, ap, sym, subst, refl, ℕ, ◌≤◌, List, [], ◌++◌, append_assoc, append-nil, length, length-append, drop, Bool, Some, None, inl, inr, arith}
+use Rattle.std.proofs.Common.{◌≡◌, ◌∙◌, ap, sym, subst, refl, ℕ, ◌≤◌, List, [], ◌++◌, append_assoc, append-nil, length, length-append, drop, Bool, false, Some, None, inl, inr, arith}
 use Rattle.std.specs.Prelude.{◌⊎◌, Ok}
 use Rattle.std.proofs.lemmas.List.{drop-append-le}
 use Rattle.dcm_base.specs.declared.tag.Tag.{Tag}
@@ -17,13 +17,12 @@ use Rattle.dcm_head.specs.declared.meta_read.MetaEnd.TheVariants as meta_ends
 use Rattle.dcm_head.specs.MetaReading.{Reading as HeadReading, group_of, meta_finished}
 use Rattle.dcm_stream.specs.Driven.{driven}
 use Rattle.dcm_stream.specs.Reading.{start_of}
-use Rattle.dcm_table.proofs.RowCells.{all_settle}
 use Rattle.dcm_table.specs.declared.ending.RowEnd.{RowEnd}
 use Rattle.dcm_table.specs.declared.ending.RowEnd.TheVariants as rows
 use Rattle.dcm_table.specs.Columns.{greatest_of}
-use Rattle.dcm_table.specs.Shown.{meta_slots, settled_slots, table_bar}
-use Rattle.dcm_table.specs.TableSink.{State, begun, next, writes, table_bar_of}
-use Rattle.dcm_table.proofs.Inside.{at}
+use Rattle.dcm_table.specs.Shown.{Held, held_by, meta_held, meta_slots, table_bar, trees_unknown}
+use Rattle.dcm_table.specs.TableSink.{Slot, State, begun, next, writes, table_bar_of}
+use Rattle.dcm_table.proofs.RowCells.{all_settle, held_at}
 use Rattle.dcm_table.proofs.MetaCells.{meta_fills, meta_settles}
 use Rattle.dcm_cli.specs.declared.ending.Ending.{Ending}
 use Rattle.dcm_cli.specs.declared.ending.Ending.TheVariants as endings
@@ -42,7 +41,7 @@ use Rattle.dcm_tables.specs.declared.file.FileEnd.{FileEnd}
 use Rattle.dcm_tables.specs.declared.file.FileEnd.TheVariants.{Read, Unread}
 use Rattle.dcm_tables.specs.Files.{ReadsFile, ReadsTable, TakesMeta, no_set, not_read, set_read, set_end}
 use Rattle.dcm_tables.specs.Deciding.{Comes, DecidesRow, TellsEnd}
-use Rattle.dcm_tables.specs.RowOf.{RowOf, of_meta, of_set, IsUndecided, in_meta, in_set, end_of}
+use Rattle.dcm_tables.specs.RowOf.{RowOf, of_meta, of_set, FailsAfter, in_head, behind_head, IsUndecided, in_meta, in_set, end_of}
 use Rattle.dcm_tables.proofs.MetaShown.{shown}
 use Rattle.dcm_tables.proofs.TableReads.{SetTaken, taken, not_taken, set_taken, set_undecided}
 
@@ -54,8 +53,11 @@ use Rattle.dcm_tables.proofs.TableReads.{SetTaken, taken, not_taken, set_taken, 
 pub head_undecided : (columns : List Tag) (bytes : List ℕ) → HeadGoesOn bytes → IsUndecided columns bytes
 head_undecided columns bytes going = let still = goes_on_still bytes going in in_meta still.0 still.1 still.2
 
+head_failed : (columns : List Tag) (bytes : List ℕ) (unknown : Bool) → HeadGoesOn bytes → unknown ≡ false → FailsAfter columns bytes unknown
+head_failed columns bytes unknown going none = let still = goes_on_still bytes going in in_head still.0 still.1 still.2 none
+
 -- the cells after the elements of its meta group
-pub taken_meta : (columns : List Tag) (m : HeadReading) (t : State) (elements : Trees) → TakesMeta m (begun columns) t → Spells Little elements (group_of m) → AreMeta elements → t ≡ at 0 (greatest_of columns) (meta_slots columns elements)
+pub taken_meta : (columns : List Tag) (m : HeadReading) (t : State) (elements : Trees) → TakesMeta m (begun columns) t → Spells Little elements (group_of m) → AreMeta elements → t ≡ held_at (greatest_of columns) (meta_held columns elements)
 taken_meta columns m t elements takes spelled meta = takes elements spelled meta ∙ meta_fills columns elements
 
 -- a head that is at fault is so whatever follows
@@ -70,11 +72,12 @@ finished_over m read rest how stop ok f = by_finish f.1
         ∙ sym x.1
 
 pub refused_row : (columns : List Tag) (file : List ℕ) (m : HeadReading) (stop : HaltStop) (t : State) → meta_finished (head_read file) ≡ m → m.end ≡ Some (meta_ends.Refused stop) → TakesMeta m (begun columns) t
-    → RowOf columns file (settled_slots t.slots) (rows.Refused stop)
+    → RowOf columns file (held_by t) (rows.Refused stop)
 refused_row columns file m stop t fin is takes =
     let x = shown m file fin in
-    let cells : settled_slots t.slots ≡ meta_slots columns x.elements =
-    ap (λ (u : State). settled_slots u.slots) (taken_meta columns m t x.elements takes x.spelled x.meta) ∙ all_settle (meta_slots columns x.elements) (meta_settles columns x.elements) in
+    let cells : held_by t ≡ meta_held columns x.elements =
+    ap held_by (taken_meta columns m t x.elements takes x.spelled x.meta)
+    ∙ ap (λ (slots : List Slot). let h : Held = record { slots = slots; unknown = trees_unknown x.elements } in h) (all_settle (meta_slots columns x.elements) (meta_settles columns x.elements)) in
     of_meta stop.fault stop.at x.elements (not_opened m file stop fin is) x.shows cells refl
 
 -- ---- a file whose data set was read
@@ -116,7 +119,7 @@ module _ (columns : List Tag) (read : List ℕ) (how : How) (buffer : List ℕ) 
     abbrev o : Opened Standard m (read ++ more)
     o = head_opened Standard read more how ok buffer m b coding m.place h
 
-    cells : t ≡ at 0 greatest (meta_slots columns o.m.elements)
+    cells : t ≡ held_at greatest (meta_held columns o.m.elements)
     cells = taken_meta columns m t o.m.elements takes (subst (Spells Little o.m.elements) (sym o.group_is) o.spelled) o.meta
 
     small : set_at o.group ≤ INPUT_LIMIT
@@ -131,10 +134,10 @@ module _ (columns : List Tag) (read : List ℕ) (how : How) (buffer : List ℕ) 
     -- more bytes can change how the reading ends
     undecided_at : (driven table_bar_of next t coding.syntax m.place (buffered ++ more)).0.halt ≡ None → IsUndecided columns (read ++ more)
     undecided_at none =
-        let there : (driven table_bar_of next (at 0 greatest (meta_slots columns o.m.elements)) coding.syntax (set_at o.group) (buffered ++ more)).0.halt ≡ None =
-        subst (λ (n : ℕ). (driven table_bar_of next (at 0 greatest (meta_slots columns o.m.elements)) coding.syntax n (buffered ++ more)).0.halt ≡ None) o.place_is
+        let there : (driven table_bar_of next (held_at greatest (meta_held columns o.m.elements)) coding.syntax (set_at o.group) (buffered ++ more)).0.halt ≡ None =
+        subst (λ (n : ℕ). (driven table_bar_of next (held_at greatest (meta_held columns o.m.elements)) coding.syntax n (buffered ++ more)).0.halt ≡ None) o.place_is
         (subst (λ (x : State). (driven table_bar_of next x coding.syntax m.place (buffered ++ more)).0.halt ≡ None) cells none) in
-        let u = set_undecided greatest (meta_slots columns o.m.elements) (meta_settles columns o.m.elements) coding.syntax (set_at o.group) small (buffered ++ more) there in
+        let u = set_undecided greatest (meta_held columns o.m.elements) (meta_settles columns o.m.elements) coding.syntax (set_at o.group) small (buffered ++ more) there in
         in_set o.m o.group coding u.f u.stop (record { head = o.reads; reads = placed u.f u.stop u.reads }) u.undecided
 
   module _ (more rest : List ℕ) (ok : Allows how (more ++ rest)) where
@@ -143,37 +146,37 @@ module _ (columns : List Tag) (read : List ℕ) (how : How) (buffer : List ℕ) 
 
     -- what the cells took of the data set
     set_ended : (new : State) (ending : Ending) → Ends table_bar_of next writes (start_of coding.syntax m.place) t None (Some rest) new None (buffered ++ more) ending
-        → SetTaken greatest (meta_slots columns p.m.elements) (meta_settles columns p.m.elements) coding.syntax (set_at p.group) (small (more ++ rest) ok) (buffered ++ more) rest new ending
+        → SetTaken greatest (meta_held columns p.m.elements) (meta_settles columns p.m.elements) coding.syntax (set_at p.group) (small (more ++ rest) ok) (buffered ++ more) rest new ending
     set_ended new ending ends =
-        set_taken greatest (meta_slots columns p.m.elements) (meta_settles columns p.m.elements) coding.syntax (set_at p.group) (small (more ++ rest) ok) (buffered ++ more) rest new ending
-        (subst (λ (n : ℕ). Ends table_bar_of next writes (start_of coding.syntax n) (at 0 greatest (meta_slots columns p.m.elements)) None (Some rest) new None (buffered ++ more) ending) p.place_is
+        set_taken greatest (meta_held columns p.m.elements) (meta_settles columns p.m.elements) coding.syntax (set_at p.group) (small (more ++ rest) ok) (buffered ++ more) rest new ending
+        (subst (λ (n : ℕ). Ends table_bar_of next writes (start_of coding.syntax n) (held_at greatest (meta_held columns p.m.elements)) None (Some rest) new None (buffered ++ more) ending) p.place_is
         (subst (λ (x : State). Ends table_bar_of next writes (start_of coding.syntax m.place) x None (Some rest) new None (buffered ++ more) ending) (cells (more ++ rest) ok) ends))
 
     -- it was read
     row_read : (new : State) (end : FileEnd) (e : RowEnd) (ending : Ending) → end ≡ Read e → end ≡ set_end ending
-        → SetTaken greatest (meta_slots columns p.m.elements) (meta_settles columns p.m.elements) coding.syntax (set_at p.group) (small (more ++ rest) ok) (buffered ++ more) rest new ending
-        → RowOf columns ((read ++ more) ++ rest) (settled_slots new.slots) e
+        → SetTaken greatest (meta_held columns p.m.elements) (meta_settles columns p.m.elements) coding.syntax (set_at p.group) (small (more ++ rest) ok) (buffered ++ more) rest new ending
+        → RowOf columns ((read ++ more) ++ rest) (held_by new) e
     row_read new end e ending is said (taken f stop reads filled came) =
-        subst (λ (bs : List ℕ). RowOf columns bs (settled_slots new.slots) e) (sym (append_assoc read more rest))
+        subst (λ (bs : List ℕ). RowOf columns bs (held_by new) e) (sym (append_assoc read more rest))
         (of_set p.m p.group coding f stop
         (record { head = p.reads; reads = placed (more ++ rest) ok f stop (subst (λ (bs : List ℕ). SetReads (more ++ rest) ok bs f stop) (append_assoc buffered more rest) reads) })
         filled (ended_as end e ending stop is said came))
-    row_read new end e ending is said (not_taken none came) = absurd (read_not_unread end e ending _ is said came)
+    row_read new end e ending is said (not_taken u unknown came) = absurd (read_not_unread end e ending _ is said came)
 
     -- or reading failed
-    row_unread : (new : State) (end : FileEnd) (count : ℕ) (ending : Ending) → end ≡ Unread count → end ≡ set_end ending
-        → SetTaken greatest (meta_slots columns p.m.elements) (meta_settles columns p.m.elements) coding.syntax (set_at p.group) (small (more ++ rest) ok) (buffered ++ more) rest new ending
-        → ((driven table_bar_of next t coding.syntax m.place (buffered ++ more)).0.halt ≡ None) × (count ≡ length (read ++ more))
-    row_unread new end count ending is said (taken f stop reads filled came) = absurd (unread_not_read end count ending stop is said came)
-    row_unread new end count ending is said (not_taken none came) =
-        let there : (driven table_bar_of next t coding.syntax m.place (buffered ++ more)).0.halt ≡ None =
-        subst (λ (x : State). (driven table_bar_of next x coding.syntax m.place (buffered ++ more)).0.halt ≡ None) (sym (cells (more ++ rest) ok))
-        (subst (λ (n : ℕ). (driven table_bar_of next (at 0 greatest (meta_slots columns p.m.elements)) coding.syntax n (buffered ++ more)).0.halt ≡ None) (sym p.place_is) none) in
+    row_unread : (new : State) (end : FileEnd) (count : ℕ) (ending : Ending) → end ≡ Unread count → end ≡ set_end ending → rest ≡ []
+        → SetTaken greatest (meta_held columns p.m.elements) (meta_settles columns p.m.elements) coding.syntax (set_at p.group) (small (more ++ rest) ok) (buffered ++ more) rest new ending
+        → FailsAfter columns (read ++ more) new.unknown × (count ≡ length (read ++ more))
+    row_unread new end count ending is said none (taken f stop reads filled came) = absurd (unread_not_read end count ending stop is said came)
+    row_unread new end count ending is said none (not_taken u unknown came) =
+        let all_read : more ++ rest ≡ more = ap (λ (bs : List ℕ). more ++ bs) none ∙ append-nil more in
+        let reads = placed (more ++ rest) ok u.f u.stop (subst (λ (bs : List ℕ). SetReads (more ++ rest) ok (buffered ++ bs) u.f u.stop) (sym all_read) u.reads) in
+        let failed : FailsAfter columns (read ++ (more ++ rest)) new.unknown = behind_head p.m p.group coding u.f u.stop (record { head = p.reads; reads = reads }) u.undecided unknown in
         let size = begins.place in
         let place = p.place_is in
         let all = length-append buffered more in
         let whole = length-append read more in
-        (there, unread_count end count ending _ is said came ∙ omega (arith, size, place, all, whole))
+        (subst (λ (bs : List ℕ). FailsAfter columns (read ++ bs) new.unknown) all_read failed, unread_count end count ending _ is said came ∙ omega (arith, size, place, all, whole))
 
 -- ---- any file
 
@@ -188,7 +191,7 @@ set_failed failed_before failed_after endings.Output t = t
 
 module _ {R : Type 0} (r : Reader R) (columns : List Tag) (before after : R) where
   set_comes : (m : HeadReading) (had held : List ℕ) (b : Beginning) (mid : R) (t new : State) (end : FileEnd) → HeadReads r before mid m had held (Ok b) → TakesMeta m (begun columns) t → ReadsTable r mid after m b held t new end
-      → DecidesRow r before after columns (settled_slots new.slots) end
+      → DecidesRow r before after columns (held_by new) end
   set_comes m had held b mid t new end head takes x =
       let set = x.reads in
       let coding : Coding = coding_by Standard x.coding in
@@ -201,7 +204,7 @@ module _ {R : Type 0} (r : Reader R) (columns : List Tag) (before after : R) whe
       let a = j.allows rest ok in
       set.ends rest a.1 (λ over. ends_empty set.more rest (nothing_follows head.how (set.more ++ rest) a.0 (head.outcome.over over)))
       in
-      let comes : (e : FileEnd) → end ≡ e → Comes columns (head.read ++ set.more) j.how (settled_slots new.slots) e = λ e. elim e as (λ (e : FileEnd). end ≡ e → Comes columns (head.read ++ set.more) j.how (settled_slots new.slots) e) [
+      let comes : (e : FileEnd) → end ≡ e → Comes columns (head.read ++ set.more) j.how (held_by new) e = λ e. elim e as (λ (e : FileEnd). end ≡ e → Comes columns (head.read ++ set.more) j.how (held_by new) e) [
         | Read f ↦ λ is rest ok.
             let a = j.allows rest ok in
             row_read columns head.read head.how held m b x.coding head.outcome x.named t takes set.more rest a.0 new end f x.ending is x.ends
@@ -209,9 +212,8 @@ module _ {R : Type 0} (r : Reader R) (columns : List Tag) (before after : R) whe
         | Unread count ↦ λ is.
             let ok = allows_nothing j.how in
             let a = j.allows [] ok in
-            let u = row_unread columns head.read head.how held m b x.coding head.outcome x.named t takes set.more [] a.0 new end count x.ending is x.ends
-            (set_ended columns head.read head.how held m b x.coding head.outcome x.named t takes set.more [] a.0 new x.ending (ends [] ok)) in
-            (undecided_at columns head.read head.how held m b x.coding head.outcome x.named t takes set.more (subst (Allows head.how) (append-nil set.more) a.0) u.0, u.1)
+            row_unread columns head.read head.how held m b x.coding head.outcome x.named t takes set.more [] a.0 new end count x.ending is x.ends refl
+            (set_ended columns head.read head.how held m b x.coding head.outcome x.named t takes set.more [] a.0 new x.ending (ends [] ok))
       ] in
       record {
         given = head.read ++ set.more;
@@ -222,21 +224,21 @@ module _ {R : Type 0} (r : Reader R) (columns : List Tag) (before after : R) whe
             (set_failed (r.has_failed before) (r.has_failed after) x.ending (subst (λ (f : Bool). TellsUnread f (r.has_failed after) x.ending) head.failed x.unread));
       }
 
-  pub row_comes : (new : State) (end : FileEnd) → ReadsFile r before after (begun columns) new end → DecidesRow r before after columns (settled_slots new.slots) end
+  pub row_comes : (new : State) (end : FileEnd) → ReadsFile r before after (begun columns) new end → DecidesRow r before after columns (held_by new) end
   row_comes new end (no_set m had held stop head takes is) = record {
     given = head.read;
     how = head.how;
     reads = for_another r HeadGoesOn (IsUndecided columns) before after head.read head.how (head_undecided columns) head.reads;
-    comes = subst (Comes columns head.read head.how (settled_slots new.slots)) (sym is)
+    comes = subst (Comes columns head.read head.how (held_by new)) (sym is)
         (λ rest ok. refused_row columns (head.read ++ rest) m stop new (finished_over m head.read rest head.how stop ok head.outcome) head.outcome.0 takes);
     failed = subst (TellsEnd (r.has_failed before) (r.has_failed after)) (sym is) head.failed;
   }
-  row_comes new end (not_read m had held count head is) = record {
+  row_comes new end (not_read m had held count head same is) = record {
     given = head.read;
     how = head.how;
     reads = for_another r HeadGoesOn (IsUndecided columns) before after head.read head.how (head_undecided columns) head.reads;
-    comes = subst (Comes columns head.read head.how (settled_slots new.slots)) (sym is)
-        (head_undecided columns head.read (ap (λ (x : HeadReading). x.end) (sym head.outcome.0) ∙ head.outcome.1), head.outcome.2);
+    comes = subst (Comes columns head.read head.how (held_by new)) (sym is)
+        (head_failed columns head.read (held_by new).unknown (ap (λ (x : HeadReading). x.end) (sym head.outcome.0) ∙ head.outcome.1) (ap (λ (x : State). x.unknown) same), head.outcome.2);
     failed = subst (TellsEnd (r.has_failed before) (r.has_failed after)) (sym is) head.failed;
   }
   row_comes new end (set_read m had held b mid t head takes x) = set_comes m had held b mid t new end head takes x

@@ -4,7 +4,7 @@ use Rattle.std.specs.Prelude.{flat_map, option_to_list, ◌&&◌, ◌||◌, not,
 use Rattle.std.specs.List.{list_any}
 use Rattle.dcm_base.specs.declared.tag.Tag.{Tag}
 use Rattle.dcm_base.specs.Tables.Tag.{same_tag}
-use Rattle.dcm_names.specs.NamedLines.{too_long_line}
+use Rattle.dcm_names.specs.NamedLines.{too_long_line, unknown_lines}
 use Rattle.dcm_table.specs.declared.ending.RowEnd.{RowEnd}
 use Rattle.dcm_table.specs.declared.ending.RowEnd.TheVariants.{Whole, Decided, Refused}
 use Rattle.dcm_table.specs.declared.quoted.TextForm.{TextForm}
@@ -15,7 +15,7 @@ use Rattle.dcm_table.specs.Quoted.{quoted, text_in}
 use Rattle.dcm_table.specs.Row.{cell_parts, cells_parts, comma, newline, reported_after, row_parts}
 use Rattle.dcm_table.specs.Shown.{settled, settled_slots}
 use Rattle.dcm_table.specs.TableSink.{Slot}
-use Rattle.dcm_tables.specs.Rows.{end_lines, file_lines, file_status, long_status, long_tags}
+use Rattle.dcm_tables.specs.Rows.{end_lines, file_lines, file_status, long_status, long_tags, unknown_told}
 
 -- ---- what is written
 
@@ -64,8 +64,8 @@ tags_settled before (c ∷ slots) =
     (λ i. option_to_list (reported_settled before c i) ++ long_tags (sym (settled_more before c) i) (settled_slots slots))
     ∙ ap (λ (x : List Tag). option_to_list (reported_after before c) ++ x) (tags_settled (before ++ c ∷ []) slots)
 
-pub lines_settled : (name : List ℕ) (slots : List Slot) (end : RowEnd) → file_lines name (settled_slots slots) end ≡ file_lines name slots end
-lines_settled name slots end = ap (λ (tags : List Tag). flat_map (too_long_line name) tags ++ end_lines name end) (tags_settled [] slots)
+pub lines_settled : (form : TextForm) (name : List ℕ) (slots : List Slot) (unknown : Bool) (end : RowEnd) → file_lines form name (settled_slots slots) unknown end ≡ file_lines form name slots unknown end
+lines_settled form name slots unknown end = ap (λ (tags : List Tag). flat_map (too_long_line name) tags ++ unknown_lines name (unknown_told form unknown) ++ end_lines name end) (tags_settled [] slots)
 
 pub status_settled : (slots : List Slot) (end : RowEnd) → file_status (settled_slots slots) end ≡ file_status slots end
 status_settled slots Whole = ap long_status (tags_settled [] slots)

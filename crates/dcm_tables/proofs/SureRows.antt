@@ -31,9 +31,9 @@ use Rattle.dcm_table.specs.declared.ending.RowEnd.TheVariants.{Decided}
 use Rattle.dcm_table.specs.Columns.{greatest_of}
 use Rattle.dcm_table.specs.Ending.{end_by}
 use Rattle.dcm_table.specs.Meta.{meta_atoms}
-use Rattle.dcm_table.specs.Shown.{meta_slots, settled_slots, slots_with, table_bar}
-use Rattle.dcm_table.specs.TableSink.{Slot, State, begun, next, table_bar_of}
-use Rattle.dcm_table.proofs.Inside.{at}
+use Rattle.dcm_table.specs.Shown.{Held, held_by, held_with, meta_held, table_bar}
+use Rattle.dcm_table.specs.TableSink.{State, begun, next, table_bar_of}
+use Rattle.dcm_table.proofs.RowCells.{held_at}
 use Rattle.dcm_table.proofs.MetaCells.{meta_settles}
 use Rattle.dcm_cli.specs.Answer.{set_at}
 use Rattle.dcm_cli.specs.Pass.{head_read}
@@ -47,7 +47,7 @@ use Rattle.dcm_tables.proofs.TableReads.{table_halts, table_refuses, set_undecid
 
 -- all files that begin with these bytes have this row
 pub record IsSure (columns : List Tag) (bytes : List ℕ) : Type 0 where
-  pub cells : List Slot
+  pub cells : Held
   pub end : RowEnd
   pub row : (rest : List ℕ) → RowOf columns (bytes ++ rest) cells end
 
@@ -69,7 +69,7 @@ module _ (columns : List Tag) (bytes : List ℕ) (end : MetaEnd) (is : (head_rea
       let takes : (elements : Trees) → Spells Little elements (group_of m) → AreMeta elements → t ≡ fold next (begun columns) (meta_atoms elements) =
       λ elements spelled meta. ap (λ (e : Trees). fold next (begun columns) (meta_atoms e)) (one_spelling (group_of m) x.elements elements x.spelled spelled) in
       record {
-        cells = settled_slots t.slots;
+        cells = held_by t;
         end = rows.Refused stop;
         row = λ rest. refused_row columns (bytes ++ rest) m stop t (finished rest) (is ∙ ap Some refuses) takes;
       }
@@ -109,8 +109,8 @@ module _ (columns : List Tag) (bytes : List ℕ) (named : Coding) (is : (head_re
   abbrev greatest : Tag
   greatest = greatest_of columns
 
-  abbrev slots : List Slot
-  slots = meta_slots columns here.m.elements
+  abbrev held : Held
+  held = meta_held columns here.m.elements
 
   abbrev set_bytes : List ℕ
   set_bytes = drop (set_at here.group) bytes
@@ -121,16 +121,16 @@ module _ (columns : List Tag) (bytes : List ℕ) (named : Coding) (is : (head_re
   cut : (rest : List ℕ) → drop (set_at here.group) (bytes ++ rest) ≡ set_bytes ++ rest
   cut rest = drop-append-le (set_at here.group) bytes rest (let le = ended_place bytes named is in let place = here.place_is in omega (arith, le, place))
 
-  going_on : (driven table_bar_of next (at 0 greatest slots) here.coding.syntax (set_at here.group) set_bytes).0.halt ≡ None → IsUndecided columns bytes
+  going_on : (driven table_bar_of next (held_at greatest held) here.coding.syntax (set_at here.group) set_bytes).0.halt ≡ None → IsUndecided columns bytes
   going_on none =
-      let u = set_undecided greatest slots (meta_settles columns here.m.elements) here.coding.syntax (set_at here.group) small set_bytes none in
+      let u = set_undecided greatest held (meta_settles columns here.m.elements) here.coding.syntax (set_at here.group) small set_bytes none in
       in_set here.m here.group here.coding u.f u.stop (record { head = here.reads; reads = u.reads }) u.undecided
 
-  halted_sure : (fault : Fault) (offset : ℕ) → (driven table_bar_of next (at 0 greatest slots) here.coding.syntax (set_at here.group) set_bytes).0.halt ≡ Some (refused fault offset) → IsSure columns bytes
+  halted_sure : (fault : Fault) (offset : ℕ) → (driven table_bar_of next (held_at greatest held) here.coding.syntax (set_at here.group) set_bytes).0.halt ≡ Some (refused fault offset) → IsSure columns bytes
   halted_sure fault offset halt =
-      let r = table_refuses greatest slots (meta_settles columns here.m.elements) here.coding.syntax (set_at here.group) small set_bytes fault offset halt in
+      let r = table_refuses greatest held (meta_settles columns here.m.elements) here.coding.syntax (set_at here.group) small set_bytes fault offset halt in
       record {
-        cells = slots_with here.coding.syntax r.f slots;
+        cells = held_with here.coding.syntax r.f held;
         end = end_of (refused fault offset);
         row = λ rest.
             of_set here.m here.group here.coding r.f (refused fault offset)
@@ -142,7 +142,7 @@ module _ (columns : List Tag) (bytes : List ℕ) (named : Coding) (is : (head_re
       }
 
   set_settles : IsUndecided columns bytes ⊎ IsSure columns bytes
-  set_settles = elim (table_halts greatest slots (meta_settles columns here.m.elements) here.coding.syntax (set_at here.group) small set_bytes) [
+  set_settles = elim (table_halts greatest held (meta_settles columns here.m.elements) here.coding.syntax (set_at here.group) small set_bytes) [
     | inl e ↦ inl (going_on e)
     | inr x ↦ inr (halted_sure x.0 x.1 x.2)
   ]
@@ -159,13 +159,13 @@ settles columns bytes = by_end (head_read bytes).end refl
     by_end (Some (meta_ends.Ended named)) is = set_settles columns bytes named is
 
 -- a row that is sure is the row
-sure_row : (columns : List Tag) (bytes : List ℕ) (cells : List Slot) (end : RowEnd) → RowOf columns bytes cells end → IsSure columns bytes → (rest : List ℕ) → RowOf columns (bytes ++ rest) cells end
+sure_row : (columns : List Tag) (bytes : List ℕ) (cells : Held) (end : RowEnd) → RowOf columns bytes cells end → IsSure columns bytes → (rest : List ℕ) → RowOf columns (bytes ++ rest) cells end
 sure_row columns bytes cells end row sure rest =
     let here : RowOf columns bytes sure.cells sure.end = subst (λ (bs : List ℕ). RowOf columns bs sure.cells sure.end) (append-nil bytes) (sure.row []) in
     let one = one_row columns bytes sure.cells cells sure.end end here row in
-    subst (λ (x : RowEnd). RowOf columns (bytes ++ rest) cells x) one.1 (subst (λ (x : List Slot). RowOf columns (bytes ++ rest) x sure.end) one.0 (sure.row rest))
+    subst (λ (x : RowEnd). RowOf columns (bytes ++ rest) cells x) one.1 (subst (λ (x : Held). RowOf columns (bytes ++ rest) x sure.end) one.0 (sure.row rest))
 
-pub row_stays : (columns : List Tag) (bytes rest : List ℕ) (cells : List Slot) (end : RowEnd) → (IsUndecided columns bytes → ⊥) → RowOf columns bytes cells end → RowOf columns (bytes ++ rest) cells end
+pub row_stays : (columns : List Tag) (bytes rest : List ℕ) (cells : Held) (end : RowEnd) → (IsUndecided columns bytes → ⊥) → RowOf columns bytes cells end → RowOf columns (bytes ++ rest) cells end
 row_stays columns bytes rest cells end sure row = elim (settles columns bytes) [
   | inl u ↦ absurd (sure u)
   | inr s ↦ sure_row columns bytes cells end row s rest
@@ -187,7 +187,7 @@ all_longer columns front b here all = λ less more whole fewer.
       | inr short ↦ all less (drop (length less) front) (sym (take-append-drop (length less) front) ∙ ap (λ (x : List ℕ). x ++ drop (length less) front) (sym cut)) short.1
     ]
 
-module _ (columns : List Tag) (bytes : List ℕ) (cells : List Slot) (end : RowEnd) (sure : IsUndecided columns bytes → ⊥) (row : RowOf columns bytes cells end) where
+module _ (columns : List Tag) (bytes : List ℕ) (cells : Held) (end : RowEnd) (sure : IsUndecided columns bytes → ⊥) (row : RowOf columns bytes cells end) where
   -- the row of a beginning that decides one
   found : (front others : List ℕ) → bytes ≡ front ++ others → AllUndecided columns front → IsSure columns front → Decides columns bytes cells end
   found front others whole all s =
@@ -196,7 +196,7 @@ module _ (columns : List Tag) (bytes : List ℕ) (cells : List Slot) (end : RowE
         front = front;
         others = others;
         whole = whole;
-        row = λ rest. subst (λ (x : RowEnd). RowOf columns (front ++ rest) cells x) one.1 (subst (λ (x : List Slot). RowOf columns (front ++ rest) x s.end) one.0 (s.row rest));
+        row = λ rest. subst (λ (x : RowEnd). RowOf columns (front ++ rest) cells x) one.1 (subst (λ (x : Held). RowOf columns (front ++ rest) x s.end) one.0 (s.row rest));
         least = all;
       }
 
@@ -227,11 +227,11 @@ decided_stop (refused fault offset) e = decided_fault fault (record { fault = fa
 none_read : (columns : List Tag) (bytes : List ℕ) (m : Meta) (group : List ℕ) (coding : Coding) (f : Front) (stop : Stop) → ShowsSet columns bytes m group coding f stop → set_at group ≤ INPUT_LIMIT → length bytes ≤ set_at group → is_undecided (Some stop) ≡ true
 none_read columns bytes m group coding f stop x le short =
     let bar = table_bar (greatest_of columns) in
-    let u = set_undecided (greatest_of columns) (meta_slots columns m.elements) (meta_settles columns m.elements) coding.syntax (set_at group) le [] refl in
+    let u = set_undecided (greatest_of columns) (meta_held columns m.elements) (meta_settles columns m.elements) coding.syntax (set_at group) le [] refl in
     let here : Reads bar coding.syntax (set_at group) [] f stop = subst (λ (bs : List ℕ). Reads bar coding.syntax (set_at group) bs f stop) (drop_all (set_at group) bytes short) x.reads in
     ap (λ (z : Stop). is_undecided (Some z)) (reads_once bar coding.syntax (set_at group) [] f u.f stop u.stop here u.reads).1 ∙ u.undecided
 
-pub decided_sure : (columns : List Tag) (bytes : List ℕ) (cells : List Slot) → RowOf columns bytes cells Decided → IsUndecided columns bytes → ⊥
+pub decided_sure : (columns : List Tag) (bytes : List ℕ) (cells : Held) → RowOf columns bytes cells Decided → IsUndecided columns bytes → ⊥
 decided_sure columns bytes cells (of_meta fault offset elements head shows is end) u = let no : Decided ≡ rows.Refused (record { fault = fault; at = offset }) = end in cc
 decided_sure columns bytes cells (of_set m group coding f stop x is end) (in_meta a reads undecided) =
     let same : a ≡ begins m group x.head.named = one_meta bytes a (begins m group x.head.named) reads x.head.head in

@@ -14,7 +14,7 @@ use Rattle.dcm_names.specs.Names.{can_be_opened}
 use Rattle.dcm_table.specs.declared.ending.RowEnd.{RowEnd}
 use Rattle.dcm_table.specs.declared.quoted.TextForm.{TextForm}
 use Rattle.dcm_table.specs.Parts.{Part, some_bytes, a_float, SpellsPart, SpellsParts, AppendsFrontOfParts}
-use Rattle.dcm_table.specs.TableSink.{Slot}
+use Rattle.dcm_table.specs.Shown.{Held}
 use Rattle.dcm_table.proofs.PartsOut.{spells_both}
 use Rattle.dcm_table_words.specs.Table as table_words
 use Rattle.dcm_cli.specs.Change.{Change}
@@ -104,7 +104,7 @@ module _ (columns : List Tag) (form : TextForm) (name : List ℕ) (errors : Chan
   alike a b r t e f left = subst (λ (z : Rows). Left z errors from to t) e (subst (Left a errors from to) f left)
 
   -- it has the row of its bytes
-  same_row : (bytes : List ℕ) (cells : List Slot) (end : RowEnd) (rows : Rows) → RowOf columns bytes cells end → FileComes columns form name (Some bytes) rows → row_with form name cells end ≡ rows
+  same_row : (bytes : List ℕ) (cells : Held) (end : RowEnd) (rows : Rows) → RowOf columns bytes cells end → FileComes columns form name (Some bytes) rows → row_with form name cells end ≡ rows
   same_row bytes cells end rows row (others, other, is, same) =
       let one = one_row columns bytes cells others end other row is in
       (λ i. row_with form name (one.0 i) (one.1 i)) ∙ sym same

@@ -1,6 +1,6 @@
 -- A machine with the cells of a table over the bytes of a data set.
 use Rattle.std.proofs.Common.{◌≡◌, ◌∙◌, ap, sym, subst, refl, ℕ, zero, suc, ◌+◌, ◌≤◌, List, [], ◌∷◌, ◌++◌, length, Bool, true, false, Option, Some, None, inl, inr, arith}
-use Rattle.std.specs.Prelude.{fold, ◌⊎◌}
+use Rattle.std.specs.Prelude.{fold, ◌⊎◌, ◌||◌}
 use Rattle.std.proofs.Math.Path.{fun_ext}
 use Rattle.std.proofs.lemmas.List.{append-nil}
 use Rattle.std.proofs.lemmas.List.Sums.{fold-append}
@@ -11,8 +11,9 @@ use Rattle.dcm_base.specs.declared.length.Length.{Length}
 use Rattle.dcm_base.specs.declared.syntax.Syntax.{Syntax}
 use Rattle.dcm_base.specs.declared.fault.Fault.{Fault}
 use Rattle.dcm_base.specs.Tables.Tag.{below}
-use Rattle.dcm_base.specs.Tree.Front.{Front}
-use Rattle.dcm_base.specs.Steps.Atoms.{Atom, Shows, front_atoms}
+use Rattle.dcm_base.specs.Tree.Front.{Front, front}
+use Rattle.dcm_base.specs.Bytes.Spelling.{SpellsFront}
+use Rattle.dcm_base.specs.Steps.Atoms.{Atom, Shows, front_atoms, is_closed}
 use Rattle.dcm_base.specs.Steps.Steps.{outputs}
 use Rattle.dcm_base.specs.Reading.Reads.{INPUT_LIMIT, Reads, ended}
 use Rattle.dcm_base.specs.Reading.Stop.{Stop, HeadBar, complete, refused, is_early_bar, is_undecided}
@@ -25,13 +26,12 @@ use Rattle.dcm_stream.proofs.Heads.Stops.{NeverEarly}
 use Rattle.dcm_stream.proofs.Steps.Follows.{follows, answers}
 use Rattle.dcm_stream.proofs.Runs.Inputs.{driven_is, output_is, ends_by, refuses_by, waits_by}
 use Rattle.dcm_sinks.proofs.ReadBack.Shallow.{machine_shallow}
-use Rattle.dcm_sinks.proofs.ReadBack.IsRead.{whole_read}
-use Rattle.dcm_table.specs.Shown.{AllSettled, decided_at, decided_by, open_after, settled_slots, slots_with, table_bar, tabled}
-use Rattle.dcm_table.specs.TableSink.{Slot, State, next, writes, table_bar_of}
+use Rattle.dcm_sinks.proofs.ReadBack.IsRead.{far_read, unclosed, whole_read}
+use Rattle.dcm_table.specs.Shown.{AllSettled, Held, decided_at, decided_by, front_unknown, held_by, held_with, open_after, table_bar, tabled}
+use Rattle.dcm_table.specs.TableSink.{State, next, writes, table_bar_of}
 use Rattle.dcm_table.proofs.BarAtoms.{tabled_bars}
 use Rattle.dcm_table.proofs.BarCells.{bars_tell}
-use Rattle.dcm_table.proofs.Inside.{at}
-use Rattle.dcm_table.proofs.RowCells.{rows_fill}
+use Rattle.dcm_table.proofs.RowCells.{held_at, rows_fill, so_far_fill}
 use Rattle.dcm_cli.specs.declared.ending.Ending.{Ending}
 use Rattle.dcm_cli.specs.declared.ending.Ending.TheVariants.{Unread}
 use Rattle.dcm_cli.specs.Pass.{Ends, at_end, at_fault, halted, unread, unwritten, end_unwritten, after_bytes}
@@ -76,15 +76,20 @@ nothing_out t (a ∷ atoms) = nothing_out (next t a) atoms
 no_front : (held holds : Option (List ℕ)) (bytes : List ℕ) → bytes ≡ [] → AppendsFront held holds bytes → ⊥
 no_front held holds bytes none h = some_more h.front h.next h.rest (sym none ∙ h.whole)
 
+-- whether a data set has ended has no influence on what it names
+unknown_ended : (stop : Stop) (f : Front) → front_unknown (ended stop f) ≡ front_unknown f
+unknown_ended complete (front trees o reached closed) = refl
+unknown_ended (refused fault offset) f = refl
+
 -- ---- the machine
 
 record ShowsNow (atoms : List Atom) : Type 0 where
   f : Front
   shown : Shows f atoms
 
-module _ (g : Tag) (slots : List Slot) (settles : AllSettled slots) (s : Syntax) (start : ℕ) (le : start ≤ INPUT_LIMIT) where
+module _ (g : Tag) (held : Held) (settles : AllSettled held.slots) (s : Syntax) (start : ℕ) (le : start ≤ INPUT_LIMIT) where
   abbrev first : State
-  first = at 0 g slots
+  first = held_at g held
 
   shows_read : (bytes : List ℕ) (f : Front) (fault : Fault) (offset : ℕ) → Reads (table_bar g) s start bytes f (refused fault offset) → Shows f (front_atoms s f)
   shows_read bytes f fault offset (reached, why, first, said, is) = subst (λ (x : Front). Shows x (front_atoms s x)) (sym is) (front_shown s reached first.read first.spelled)
@@ -101,7 +106,7 @@ module _ (g : Tag) (slots : List Slot) (settles : AllSettled slots) (s : Syntax)
       let now = shows_now read in
       let atoms : List Atom = (read_all (tabled g) s start read).1 in
       fun_ext (λ (tag : Tag). fun_ext (λ (vr : Vr). fun_ext (λ (declared : Length).
-      bars_tell g slots now.f atoms tag vr declared settles (machine_shallow (tabled g) (late g) s start read) now.shown ∙ sym ((tabled_bars g).agree now.f atoms now.shown tag vr declared))))
+      bars_tell g held now.f atoms tag vr declared settles (machine_shallow (tabled g) (late g) s start read) now.shown ∙ sym ((tabled_bars g).agree now.f atoms now.shown tag vr declared))))
 
   read_same : (bytes : List ℕ) → read_all (bars_by table_bar_of next first) s start bytes ≡ read_all (tabled g) s start bytes
   read_same bytes = reads_alike (bars_by table_bar_of next first) (tabled g) s start agree_now bytes
@@ -141,16 +146,44 @@ module _ (g : Tag) (slots : List Slot) (settles : AllSettled slots) (s : Syntax)
       ]
 
   -- the cells after what was read
-  cells_of : (bytes : List ℕ) (f : Front) (stop : Stop) (t : State) → Reads (table_bar g) s start bytes f stop → t ≡ fold next first (front_atoms s f) → settled_slots t.slots ≡ slots_with s f slots
+  cells_of : (bytes : List ℕ) (f : Front) (stop : Stop) (t : State) → Reads (table_bar g) s start bytes f stop → t ≡ fold next first (front_atoms s f) → held_by t ≡ held_with s f held
   cells_of bytes f stop t reads is =
-      ap (λ (x : State). settled_slots x.slots) is
-      ∙ rows_fill g slots (table_bar g) s start bytes f stop settles (whole_read (tabled g) (table_bar g) (tabled_bars g) (late g) s start bytes le f stop reads).shallow reads
+      ap held_by is
+      ∙ rows_fill g held (table_bar g) s start bytes f stop settles (whole_read (tabled g) (table_bar g) (tabled_bars g) (late g) s start bytes le f stop reads).shallow reads
+
+  -- ---- more bytes can still change how the reading of these ends
+
+  pub record SetUndecided (bytes : List ℕ) : Type 0 where
+    pub f : Front
+    pub stop : Stop
+    pub reads : Reads (table_bar g) s start bytes f stop
+    pub undecided : is_undecided (Some stop) ≡ true
+
+  pub set_undecided : (bytes : List ℕ) → (driven table_bar_of next first s start bytes).0.halt ≡ None → SetUndecided bytes
+  set_undecided bytes none =
+      let w = table_waits bytes none in
+      let stop : Stop = finish (driven table_bar_of next first s start bytes).0 in
+      record { f = ended stop w.f; stop = stop; reads = w.reads; undecided = w.undecided }
+
+  open_same : (f : Front) → is_closed f ≡ false → unclosed f ≡ f
+  open_same (front whole o reached closed) c = ap (front whole o reached) (sym c)
+
+  -- what was named until then
+  unread_unknown : (bytes : List ℕ) (none : (driven table_bar_of next first s start bytes).0.halt ≡ None) (t : State) → t ≡ (driven table_bar_of next first s start bytes).1 → t.unknown ≡ (front_unknown (set_undecided bytes none).f || held.unknown)
+  unfolding set_undecided finish
+  unread_unknown bytes none t is =
+      let w = table_waits bytes none in
+      let stop : Stop = finish (driven table_bar_of next first s start bytes).0 in
+      let r = far_read (tabled g) (table_bar g) (tabled_bars g) (late g) s start bytes le w.f stop w.not_closed w.reads in
+      ap (λ (x : State). x.unknown) (is ∙ w.state)
+      ∙ ap (λ (x : Held). x.unknown) (so_far_fill g held s w.f r.bytes (subst (λ (x : Front). SpellsFront s x r.bytes) (open_same w.f w.not_closed) r.spelled) settles r.shallow)
+      ∙ ap (λ (x : Bool). x || held.unknown) (sym (unknown_ended stop w.f))
 
   -- ---- how a pass over a data set ended
 
   pub data SetTaken (read rest : List ℕ) (t : State) (ending : Ending) : Type 0 where
-    taken : (f : Front) (stop : Stop) → Reads (table_bar g) s start (read ++ rest) f stop → settled_slots t.slots ≡ slots_with s f slots → set_end ending ≡ Read (end_of stop) → SetTaken read rest t ending
-    not_taken : (driven table_bar_of next first s start read).0.halt ≡ None → ending ≡ Unread (start + length read) → SetTaken read rest t ending
+    taken : (f : Front) (stop : Stop) → Reads (table_bar g) s start (read ++ rest) f stop → held_by t ≡ held_with s f held → set_end ending ≡ Read (end_of stop) → SetTaken read rest t ending
+    not_taken : (u : SetUndecided read) → t.unknown ≡ (front_unknown u.f || held.unknown) → ending ≡ Unread (start + length read) → SetTaken read rest t ending
 
   ended_there : (read rest : List ℕ) (t : State) (ending : Ending) (stop : Stop) → rest ≡ [] → finish (after_bytes table_bar_of next (start_of s start) first read).0 ≡ stop
       → t ≡ fold next (after_bytes table_bar_of next (start_of s start) first read).1 (end_shows stop) → set_end ending ≡ Read (end_of stop) → SetTaken read rest t ending
@@ -171,23 +204,9 @@ module _ (g : Tag) (slots : List Slot) (settles : AllSettled slots) (s : Syntax)
       let r = table_refuses read stop.fault stop.at halt in
       let reads = r.reads rest in
       taken r.f (refused stop.fault stop.at) reads (cells_of (read ++ rest) r.f (refused stop.fault stop.at) t reads (state ∙ r.state)) (ap set_end is)
-  set_taken read rest t ending (unread none is state e) = not_taken none (is ∙ ap (λ (n : ℕ). Unread (n + length read)) (starts_at start))
+  set_taken read rest t ending (unread none is state e) = not_taken (set_undecided read none) (unread_unknown read none t state) (is ∙ ap (λ (n : ℕ). Unread (n + length read)) (starts_at start))
   set_taken read rest t ending (unwritten is beginning) = absurd (no_front None None _ (written_none read) beginning)
   set_taken read rest t ending (end_unwritten over none is beginning) =
       absurd (no_front None None _
       (ap (λ (bs : List ℕ). bs ++ outputs next writes (driven table_bar_of next first s start read).1 (end_shows (finish (driven table_bar_of next first s start read).0))) (written_none read)
       ∙ nothing_out (driven table_bar_of next first s start read).1 (end_shows (finish (driven table_bar_of next first s start read).0))) beginning)
-
-  -- ---- more bytes can still change how the reading of these ends
-
-  pub record SetUndecided (bytes : List ℕ) : Type 0 where
-    pub f : Front
-    pub stop : Stop
-    pub reads : Reads (table_bar g) s start bytes f stop
-    pub undecided : is_undecided (Some stop) ≡ true
-
-  pub set_undecided : (bytes : List ℕ) → (driven table_bar_of next first s start bytes).0.halt ≡ None → SetUndecided bytes
-  set_undecided bytes none =
-      let w = table_waits bytes none in
-      let stop : Stop = finish (driven table_bar_of next first s start bytes).0 in
-      record { f = ended stop w.f; stop = stop; reads = w.reads; undecided = w.undecided }

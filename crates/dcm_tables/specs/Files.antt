@@ -51,7 +51,7 @@ pub data ReadsFile {R : Type 0} (r : Reader R) (before after : R) (first new : S
       → pass.HeadReads r before after m had held (Err (heads.Refused stop)) → TakesMeta m first new
       → end ≡ Read (rows.Refused stop) → ReadsFile r before after first new end
   not_read : (m : meta.Reading) (had held : List ℕ) (count : ℕ)
-      → pass.HeadReads r before after m had held (Err (heads.Unread count)) → end ≡ Unread count
+      → pass.HeadReads r before after m had held (Err (heads.Unread count)) → new ≡ first → end ≡ Unread count
       → ReadsFile r before after first new end
   set_read : (m : meta.Reading) (had held : List ℕ) (b : Beginning) (mid : R) (taken : State)
       → pass.HeadReads r before mid m had held (Ok b) → TakesMeta m first taken

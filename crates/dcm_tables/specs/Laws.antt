@@ -1,5 +1,5 @@
 -- The statements of the laws.
-use Rattle.std.specs.Prelude.{◌≡◌, ◌<◌, ◌≤◌, ℕ, List, [], ◌∷◌, ◌++◌, length, true, Result, Some, IsUtf8}
+use Rattle.std.specs.Prelude.{◌≡◌, ◌<◌, ◌≤◌, ℕ, List, [], ◌∷◌, ◌++◌, length, Bool, true, Result, Some, IsUtf8}
 use Rattle.dcm_base.specs.declared.syntax.Syntax.{Syntax}
 use Rattle.dcm_base.specs.declared.tag.Tag.{Tag}
 use Rattle.dcm_base.specs.declared.vr.Vr.{Vr}
@@ -19,7 +19,7 @@ use Rattle.dcm_table.specs.Laws.{is_valid_form}
 use Rattle.dcm_table.specs.Parts.{SpellsParts, some_bytes}
 use Rattle.dcm_table.specs.Quoted.{quoted}
 use Rattle.dcm_table.specs.Row.{cell_parts, is_quoted_text, row_parts}
-use Rattle.dcm_table.specs.Shown.{leaf_cell, settled_slots}
+use Rattle.dcm_table.specs.Shown.{Held, held_by, leaf_cell, settled_slots}
 use Rattle.dcm_table.specs.TableSink.{Slot, State, begun}
 use Rattle.dcm_files.specs.declared.memory.MemSystem.{MemSystem}
 use Rattle.dcm_cli.specs.Calls.{Reader}
@@ -38,7 +38,7 @@ abbrev pub RowIsRead : {R : Type 0} → Reader R → Type 0
 RowIsRead {R} r =
     (columns : List Tag) (before after : R) (cells : State) (end : FileEnd)
     → ReadsFile r before after (begun columns) cells end
-    → DecidesRow r before after columns (settled_slots cells.slots) end
+    → DecidesRow r before after columns (held_by cells) end
 
 -- so does what is done with it
 abbrev pub RowIsDone : {R W : Type 0} → Reader R → Writer W → Type 0
@@ -51,9 +51,9 @@ RowIsDone {R} {W} r w =
 -- a value that is not whole is not written, and not reported
 abbrev pub RowIsSettled : Type 0
 RowIsSettled =
-    (form : TextForm) (name : List ℕ) (slots : List Slot) (end : RowEnd)
+    (form : TextForm) (name : List ℕ) (slots : List Slot) (unknown : Bool) (end : RowEnd)
     → (row_parts form name (settled_slots slots) ≡ row_parts form name slots)
-    × (file_lines name (settled_slots slots) end ≡ file_lines name slots end)
+    × (file_lines form name (settled_slots slots) unknown end ≡ file_lines form name slots unknown end)
     × (file_status (settled_slots slots) end ≡ file_status slots end)
 
 -- ---- the row of a file
@@ -61,22 +61,22 @@ RowIsSettled =
 -- a file has at most one row
 abbrev pub RowIsOne : Type 0
 RowIsOne =
-    (columns : List Tag) (bytes : List ℕ) (cells others : List Slot) (end other : RowEnd)
+    (columns : List Tag) (bytes : List ℕ) (cells others : Held) (end other : RowEnd)
     → RowOf columns bytes cells end → RowOf columns bytes others other → (cells ≡ others) × (end ≡ other)
 
 -- and at least one
 abbrev pub RowIsSome : Type 0
 RowIsSome =
-    (columns : List Tag) (bytes : List ℕ) → (cells : List Slot) × (end : RowEnd) × RowOf columns bytes cells end
+    (columns : List Tag) (bytes : List ℕ) → (cells : Held) × (end : RowEnd) × RowOf columns bytes cells end
 
 -- where more bytes cannot change how the reading of these ends, all files that begin with them have one row
 abbrev pub RowStays : Type 0
 RowStays =
-    (columns : List Tag) (bytes rest : List ℕ) (cells : List Slot) (end : RowEnd) → (IsUndecided columns bytes → ⊥)
+    (columns : List Tag) (bytes rest : List ℕ) (cells : Held) (end : RowEnd) → (IsUndecided columns bytes → ⊥)
     → RowOf columns bytes cells end → RowOf columns (bytes ++ rest) cells end
 
 -- these bytes of a file decide its row, and no fewer do
-pub record Decides (columns : List Tag) (bytes : List ℕ) (cells : List Slot) (end : RowEnd) : Type 0 where
+pub record Decides (columns : List Tag) (bytes : List ℕ) (cells : Held) (end : RowEnd) : Type 0 where
   pub front : List ℕ
   pub others : List ℕ
   pub whole : bytes ≡ front ++ others
@@ -86,13 +86,13 @@ pub record Decides (columns : List Tag) (bytes : List ℕ) (cells : List Slot) (
 -- where more bytes cannot change how the reading ends, some beginning decides the row
 abbrev pub RowIsDecided : Type 0
 RowIsDecided =
-    (columns : List Tag) (bytes : List ℕ) (cells : List Slot) (end : RowEnd) → (IsUndecided columns bytes → ⊥)
+    (columns : List Tag) (bytes : List ℕ) (cells : Held) (end : RowEnd) → (IsUndecided columns bytes → ⊥)
     → RowOf columns bytes cells end → Decides columns bytes cells end
 
 -- so it is where a head above all columns ends it
 abbrev pub DecidedIsSure : Type 0
 DecidedIsSure =
-    (columns : List Tag) (bytes : List ℕ) (cells : List Slot) → RowOf columns bytes cells Decided
+    (columns : List Tag) (bytes : List ℕ) (cells : Held) → RowOf columns bytes cells Decided
     → IsUndecided columns bytes → ⊥
 
 -- ---- the text of a row
@@ -100,9 +100,9 @@ DecidedIsSure =
 -- the row of any file is valid UTF-8, where that is asked
 abbrev pub RowIsUtf8 : Type 0
 RowIsUtf8 =
-    (columns : List Tag) (form : TextForm) (name bytes : List ℕ) (cells : List Slot) (end : RowEnd) (text : List ℕ)
+    (columns : List Tag) (form : TextForm) (name bytes : List ℕ) (cells : Held) (end : RowEnd) (text : List ℕ)
     → is_valid_form form ≡ true → AreBytes name → AreBytes bytes → RowOf columns bytes cells end
-    → SpellsParts (row_parts form name cells) text → IsUtf8 text
+    → SpellsParts (row_parts form name cells.slots) text → IsUtf8 text
 
 -- the cell of an element that is a text, by its representation as it was read, is the value that its text in a full dump
 -- means, without the pads at its end

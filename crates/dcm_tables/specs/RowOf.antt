@@ -1,5 +1,5 @@
 -- The row of a file: what its bytes, and nothing else, give of the columns of a table.
-use Rattle.std.specs.Prelude.{◌≡◌, ℕ, List, take, drop, length, bytes_eq, Bool, true, false, Some}
+use Rattle.std.specs.Prelude.{◌≡◌, ℕ, List, take, drop, length, bytes_eq, Bool, true, false, ◌||◌, Some}
 use Rattle.dcm_base.specs.declared.tag.Tag.{Tag}
 use Rattle.dcm_base.specs.declared.fault.Fault.{Fault}
 use Rattle.dcm_base.specs.declared.syntax.Coding.{Coding}
@@ -15,8 +15,7 @@ use Rattle.dcm_table.specs.declared.ending.RowEnd.{RowEnd}
 use Rattle.dcm_table.specs.declared.ending.RowEnd.TheVariants.{Whole, Refused}
 use Rattle.dcm_table.specs.Columns.{greatest_of}
 use Rattle.dcm_table.specs.Ending.{end_by}
-use Rattle.dcm_table.specs.Shown.{meta_slots, slots_with, table_bar}
-use Rattle.dcm_table.specs.TableSink.{Slot}
+use Rattle.dcm_table.specs.Shown.{Held, front_unknown, held_with, meta_held, table_bar, trees_unknown}
 use Rattle.dcm_cli.specs.Answer.{HeadIs, set_at}
 
 -- ---- the meta group
@@ -48,13 +47,13 @@ end_of (refused fault offset) = end_by fault (record { fault = fault; at = offse
 
 -- the cells of the columns, and how the reading ends: no data set follows the meta group, and they are of the elements
 -- that are whole before the fault; or they are of the meta group and the data set
-pub data RowOf (columns : List Tag) (bytes : List ℕ) (cells : List Slot) (end : RowEnd) : Type 0 where
+pub data RowOf (columns : List Tag) (bytes : List ℕ) (cells : Held) (end : RowEnd) : Type 0 where
   of_meta : (fault : Fault) (offset : ℕ) (elements : Trees) → MetaReads bytes (meta.refused fault offset)
-      → ShowsMeta bytes elements → cells ≡ meta_slots columns elements
+      → ShowsMeta bytes elements → cells ≡ meta_held columns elements
       → end ≡ Refused (record { fault = fault; at = offset }) → RowOf columns bytes cells end
   of_set : (m : Meta) (group : List ℕ) (coding : Coding) (set : Front) (stop : Stop)
       → ShowsSet columns bytes m group coding set stop
-      → cells ≡ slots_with coding.syntax set (meta_slots columns m.elements) → end ≡ end_of stop
+      → cells ≡ held_with coding.syntax set (meta_held columns m.elements) → end ≡ end_of stop
       → RowOf columns bytes cells end
 
 -- more bytes after these can still change how the reading ends
@@ -63,3 +62,12 @@ pub data IsUndecided (columns : List Tag) (bytes : List ℕ) : Type 0 where
       → IsUndecided columns bytes
   in_set : (m : Meta) (group : List ℕ) (coding : Coding) (set : Front) (stop : Stop)
       → ShowsSet columns bytes m group coding set stop → is_undecided (Some stop) ≡ true → IsUndecided columns bytes
+
+-- so they can where reading failed after them; whether a value of Specific Character Set that was read until then named
+-- what is not known: none is read before the data set
+pub data FailsAfter (columns : List Tag) (bytes : List ℕ) (unknown : Bool) : Type 0 where
+  in_head : (a : meta.MetaAnswer) → MetaReads bytes a → meta.is_undecided (length bytes) a ≡ true → unknown ≡ false
+      → FailsAfter columns bytes unknown
+  behind_head : (m : Meta) (group : List ℕ) (coding : Coding) (set : Front) (stop : Stop)
+      → ShowsSet columns bytes m group coding set stop → is_undecided (Some stop) ≡ true
+      → unknown ≡ (front_unknown set || trees_unknown m.elements) → FailsAfter columns bytes unknown

@@ -1,12 +1,13 @@
 -- What is done with one file: its row, the lines after it, and its status.
-use Rattle.std.specs.Prelude.{◌≡◌, ℕ, List, [], ◌∷◌, ◌++◌, flat_map, option_to_list, true, Result, Ok, Err}
+use Rattle.std.specs.Prelude.{◌≡◌, ℕ, List, [], ◌∷◌, ◌++◌, flat_map, option_to_list, Bool, true, false, Result, Ok, Err}
 use Rattle.dcm_base.specs.declared.tag.Tag.{Tag}
 use Rattle.dcm_devices.specs.declared.device.WriteFailed.{WriteFailed}
 use Rattle.dcm_devices.specs.Writing.{Writer}
-use Rattle.dcm_names.specs.NamedLines.{fault_line, too_long_line, unread_line}
+use Rattle.dcm_names.specs.NamedLines.{fault_line, too_long_line, unknown_lines, unread_line}
 use Rattle.dcm_table.specs.declared.ending.RowEnd.{RowEnd}
 use Rattle.dcm_table.specs.declared.ending.RowEnd.TheVariants.{Refused}
 use Rattle.dcm_table.specs.declared.quoted.TextForm.{TextForm}
+use Rattle.dcm_table.specs.declared.quoted.TextForm.TheVariants.{ValidUtf8, AsItIs, Decoded}
 use Rattle.dcm_table.specs.Parts.{AppendsParts, AppendsFrontOfParts}
 use Rattle.dcm_table.specs.Row.{reported_after, row_parts}
 use Rattle.dcm_table.specs.TableSink.{Slot, State}
@@ -32,9 +33,20 @@ abbrev pub end_lines : (name : List ℕ) → RowEnd → List ℕ
 end_lines name (Refused stop) = fault_line name stop
 end_lines name _ = []
 
--- the fault comes last
-abbrev pub file_lines : (name : List ℕ) → List Slot → RowEnd → List ℕ
-file_lines name slots end = long_lines name [] slots ++ end_lines name end
+-- a character set that is not known is told where texts are decoded
+abbrev pub unknown_told : TextForm → Bool → Bool
+unknown_told Decoded unknown = unknown
+unknown_told ValidUtf8 unknown = false
+unknown_told AsItIs unknown = false
+
+-- it comes after values that are too long, and the fault comes last
+abbrev pub file_lines : TextForm → (name : List ℕ) → List Slot → (unknown : Bool) → RowEnd → List ℕ
+file_lines form name slots unknown end =
+    long_lines name [] slots ++ unknown_lines name (unknown_told form unknown) ++ end_lines name end
+
+-- where reading failed
+abbrev pub unread_lines : TextForm → (name : List ℕ) → (unknown : Bool) → (count : ℕ) → List ℕ
+unread_lines form name unknown count = unknown_lines name (unknown_told form unknown) ++ unread_line name count
 
 abbrev pub long_status : List Tag → ℕ
 long_status [] = DONE
@@ -54,7 +66,7 @@ pub data DoesFile {R W : Type 0} (r : Reader R) (w : Writer W) (first : State) (
     (errors : Change) (from to : W) (before : R) (result : Result ℕ WriteFailed) (after : R) : Type 0 where
   written : (cells : State) (end : RowEnd) → ReadsFile r before after first cells (Read end)
       → AppendsParts (w.contents from) (w.contents to) (row_parts form name cells.slots)
-      → w.has_failed to ≡ w.has_failed from → Reports errors (file_lines name cells.slots end)
+      → w.has_failed to ≡ w.has_failed from → Reports errors (file_lines form name cells.slots cells.unknown end)
       → result ≡ Ok (file_status cells.slots end) → DoesFile r w first form name errors from to before result after
   not_written : (cells : State) (end : RowEnd) (failure : WriteFailed)
       → ReadsFile r before after first cells (Read end)
@@ -62,5 +74,5 @@ pub data DoesFile {R W : Type 0} (r : Reader R) (w : Writer W) (first : State) (
       → w.has_failed to ≡ true → Reports errors [] → result ≡ Err failure
       → DoesFile r w first form name errors from to before result after
   not_read : (cells : State) (count : ℕ) → ReadsFile r before after first cells (Unread count)
-      → to ≡ from → Reports errors (unread_line name count) → result ≡ Ok DEVICE
+      → to ≡ from → Reports errors (unread_lines form name cells.unknown count) → result ≡ Ok DEVICE
       → DoesFile r w first form name errors from to before result after

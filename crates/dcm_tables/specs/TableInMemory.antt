@@ -13,7 +13,7 @@ use Rattle.dcm_table.specs.declared.ending.RowEnd.{RowEnd}
 use Rattle.dcm_table.specs.declared.quoted.TextForm.{TextForm}
 use Rattle.dcm_table.specs.Parts.{Part, some_bytes, a_float, SpellsParts}
 use Rattle.dcm_table.specs.Row.{row_parts}
-use Rattle.dcm_table.specs.TableSink.{Slot}
+use Rattle.dcm_table.specs.Shown.{Held}
 use Rattle.dcm_table_words.specs.declared.usage.TableUsage.{TableUsage}
 use Rattle.dcm_table_words.specs.Table as table_words
 use Rattle.dcm_table_words.specs.Usages.{usage_line}
@@ -56,15 +56,18 @@ abbrev pub unopened : (name : List ℕ) → Rows
 unopened name = record { parts = []; lines = unopened_line name; status = DEVICE }
 
 -- the row of a file with these cells and this end
-abbrev pub row_with : TextForm → (name : List ℕ) → List Slot → RowEnd → Rows
-row_with form name cells end =
-    record { parts = row_parts form name cells; lines = file_lines name cells end; status = file_status cells end }
+abbrev pub row_with : TextForm → (name : List ℕ) → Held → RowEnd → Rows
+row_with form name cells end = record {
+  parts = row_parts form name cells.slots;
+  lines = file_lines form name cells.slots cells.unknown end;
+  status = file_status cells.slots end;
+}
 
 -- a file comes to the row that its bytes give; one that cannot be opened has none
 abbrev pub FileComes : List Tag → TextForm → (name : List ℕ) → Option (List ℕ) → Rows → Type 0
 FileComes columns form name None rows = rows ≡ unopened name
 FileComes columns form name (Some bytes) rows =
-    (cells : List Slot) × (end : RowEnd) × RowOf columns bytes cells end × (rows ≡ row_with form name cells end)
+    (cells : Held) × (end : RowEnd) × RowOf columns bytes cells end × (rows ≡ row_with form name cells end)
 
 -- ---- names
 

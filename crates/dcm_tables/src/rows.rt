@@ -1,7 +1,7 @@
 // The row of one file, and the lines on standard error that come after it.
-ghost use Rattle.std.specs.Prelude.{◌≡◌, ◌≤◌, [], flat_map, option_to_list, IfOk};
+ghost use Rattle.std.specs.Prelude.{◌≡◌, ◌≤◌, ◌++◌, [], flat_map, option_to_list, IfOk};
 ghost use Rattle.dcm_devices.specs.Writing.{Wrote};
-ghost use Rattle.dcm_names.specs.NamedLines.{too_long_line};
+ghost use Rattle.dcm_names.specs.NamedLines.{too_long_line, unknown_lines};
 ghost use Rattle.dcm_table.specs.TableSink.{cleared};
 ghost use Rattle.dcm_cli.specs.Change.{change_of};
 ghost use Rattle.dcm_cli.specs.Status as statuses;
@@ -11,7 +11,7 @@ use crate::file::{FileEnd, read_file_with};
 use dcm_base::{DeviceIn, DeviceOut, Tag, Watched, WriteFailed};
 use dcm_cli::status::{DEVICE, DONE, FAULT};
 use dcm_head::Meta;
-use dcm_names::{put_fault, put_too_long, put_unread};
+use dcm_names::{put_fault, put_too_long, put_unknown, put_unread};
 use dcm_table::{Cells, Columns, RowEnd, TextForm, put_row};
 
 /// The bytes of a file that are read at a time.
@@ -77,17 +77,58 @@ fn put_end_line<E: DeviceOut>(
     }
 }
 
+/// Whether it is told that a value of Specific Character Set names what is not known: where texts are decoded.
+fn tells_unknown(form: TextForm, cells: &Cells) -> bool
+    ensures { result ≡ spec.unknown_told form cells.now.unknown }
+{
+    match form {
+        TextForm::Decoded => cells.has_unknown(),
+        TextForm::ValidUtf8 | TextForm::AsItIs => false,
+    }
+}
+
+/// Writes that a character set is not known, where that is told, and the line of a file's fault. After a line that
+/// failed no other is tried.
+fn put_last_lines<E: DeviceOut>(
+    name: &[u8],
+    unknown: bool,
+    end: RowEnd,
+    errors: &mut Watched<E>,
+) -> Result<(), WriteFailed>
+    ensures { Wrote E.DeviceOut errors.old errors.new (unknown_lines name.now unknown ++ spec.end_lines name.now end)
+        result }
+{
+    put_unknown(name, unknown, errors)?;
+    put_end_line(name, end, errors)
+}
+
 /// Writes the lines of a file that was read, its fault last. After a line that failed no other is tried.
 fn put_file_lines<E: DeviceOut>(
+    form: TextForm,
     name: &[u8],
     cells: &Cells,
     end: RowEnd,
     errors: &mut Watched<E>,
 ) -> Result<(), WriteFailed>
-    ensures { Wrote E.DeviceOut errors.old errors.new (spec.file_lines name.now cells.now.slots end) result }
+    ensures { Wrote E.DeviceOut errors.old errors.new
+        (spec.file_lines form name.now cells.now.slots cells.now.unknown end) result }
 {
     put_long_lines(name, cells, errors)?;
-    put_end_line(name, end, errors)
+    put_last_lines(name, tells_unknown(form, cells), end, errors)
+}
+
+/// Writes the lines of a file of which reading failed after so many bytes. After a line that failed no other is tried.
+fn put_unread_lines<E: DeviceOut>(
+    form: TextForm,
+    name: &[u8],
+    cells: &Cells,
+    read: u64,
+    errors: &mut Watched<E>,
+) -> Result<(), WriteFailed>
+    ensures { Wrote E.DeviceOut errors.old errors.new (spec.unread_lines form name.now cells.now.unknown read) result }
+{
+    put_unknown(name, tells_unknown(form, cells), errors)?;
+    put_unread(name, read, errors)
 }
 
 /// The status of a file by its cells.
@@ -131,11 +172,11 @@ pub fn do_file<R: DeviceIn, W: DeviceOut, E: DeviceOut>(
     match read_file_with(&mut work.meta, input, &mut work.buffer, work.cells) {
         FileEnd::Read(end) => {
             put_row(work.form, name, work.cells, out)?;
-            let _ = put_file_lines(name, work.cells, end, errors);
+            let _ = put_file_lines(work.form, name, work.cells, end, errors);
             Ok(file_status(work.cells, end))
         }
         FileEnd::Unread(read) => {
-            let _ = put_unread(name, read, errors);
+            let _ = put_unread_lines(work.form, name, work.cells, read, errors);
             Ok(DEVICE)
         }
     }

@@ -57,7 +57,7 @@ module _ (s : MemSystem) (h : HoldsBytes s) (shown : Showing) (d : Dictionary) (
 
   pub file_valid : (from : Place) (name : List ℕ) (o : Option (List ℕ)) (t : Texts) (to : Place) → ((bytes : List ℕ) → o ≡ Some bytes → IsOpened name bytes) → FileComes shown from name o t to → ValidText t
   file_valid from name None t to f e = subst ValidText (sym e.0) IsUtf8-nil
-  file_valid from name (Some bytes) t to f (text, verdict, y, is, place) =
+  file_valid from name (Some bytes) t to f (text, verdict, remarks, y, told, is, place) =
       let o = f bytes refl in
       subst ValidText (sym is) (both (heading_utf8 from.is_first (next_number from.number) shown.total name (shown_utf8 name o.named o.short)) (dump_utf8 bytes text verdict name o y))
 

@@ -88,9 +88,9 @@ module _ {I W : Type 0} (r : Reader I) (w : Writer W) (gives : GivesBytes r) (d 
 
   file_grows : (job : Job) (heading name : List ℕ) (errors : Change) (from to : W) (before : I) (status : ℕ) (after : I) → job ≡ dump_decoded d mode bare → IsUtf8 heading
       → ShowsFile r w job heading name errors from to before (Ok status) after → GrewByUtf8 w from to
-  file_grows job heading name errors from to before status after is_job h (shown given how text verdict reads all fine out failed flushed lines is) =
+  file_grows job heading name errors from to before status after is_job h (shown given how text verdict remarks reads all remarked fine out failed flushed lines is) =
       (heading ++ text, both h (answered_utf8 job given how text verdict is_job (given_bytes r gives _ before given how after reads.calls) all), out)
-  file_grows job heading name errors from to before status after is_job h (unread given how text reads sure failed out fine flushed lines is) =
+  file_grows job heading name errors from to before status after is_job h (unread given how text remarks reads sure remarked failed out fine flushed lines is) =
       (heading ++ text, both h (sure_text job given text is_job (given_bytes r gives _ before given how after reads.calls) sure), out)
   file_grows job heading name errors from to before status after is_job h (not_headed failure out failed same lines is) = absurd (no_other status failure is)
   file_grows job heading name errors from to before status after is_job h (not_written given how failure reads all failed lines is) = absurd (no_other status failure is)

@@ -1,3 +1,4 @@
+pub mod Vanishing
 pub mod Numbers
 pub mod Keywords
 pub mod Lines

@@ -1,4 +1,5 @@
 pub mod Laws
+pub mod Vanishing
 pub mod Standing
 pub mod Left
 pub mod ShownLines

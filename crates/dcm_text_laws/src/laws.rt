@@ -4,6 +4,7 @@ ghost use Rattle.dcm_text_laws.specs.Laws.{TableEndStands, TableIsUtf8, TableSoF
 ghost use Rattle.dcm_text_laws.specs.Left.{DumpGrowsByUtf8, DumpsGrowByUtf8, HeaderIsUtf8, RowGrowsByUtf8};
 ghost use Rattle.dcm_text_laws.specs.Left.{GivesBytes, TableGrowsByUtf8};
 ghost use Rattle.dcm_tables.specs.OverStd.{std_reader};
+ghost use Rattle.dcm_text_laws.specs.Vanishing.{NothingVanishes};
 ghost use Rattle.dcm_text_laws.specs.ShownLines.{DisplayOfUtf8, LineOfAscii, LineOfAsciiAmongOthers, LineOfUtf8};
 
 use dcm_base::DeviceOut;
@@ -49,6 +50,14 @@ pub fn table_is_utf8<S: System, W: DeviceOut>()
 /// - The readers are those of the standard library.
 pub fn program_gives_bytes<T: Read>()
     ensures { GivesBytes (std_reader T.remaining) }
+{}
+
+/// No byte of a text vanishes in a line of `dcmdump +u8` that shows the text in full.
+///
+/// - The text is made of the displayed characters, with each `%XX` undone, coded by the character set in force, and of the
+///   escape sequences that the line leaves out.
+pub fn nothing_vanishes()
+    ensures { NothingVanishes }
 {}
 
 /// The line of an ASCII text is the same in a dump with and without `+u8`, and so is the line of a value that is no

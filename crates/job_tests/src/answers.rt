@@ -9,7 +9,7 @@ use crate::runs::{
     buildings, conversions, dictionaries, expect_rows, identities, identity_emptied,
     identity_faults, identity_heads, identity_moved, identity_named, identity_put,
     identity_unnamed, modifications, named_elements, signs, text_cuts, text_extensions, text_sets,
-    text_terms, unknown,
+    text_terms, text_unknown, unknown,
 };
 use std::test::Fail;
 
@@ -23,6 +23,7 @@ fn dumps_by_characters(rt: HostRuntime) -> Result<(), Fail> {
     expect_rows(rt.alloc(), &text_sets())?;
     expect_rows(rt.alloc(), &text_extensions())?;
     expect_rows(rt.alloc(), &text_terms())?;
+    expect_rows(rt.alloc(), &text_unknown())?;
     expect_rows(rt.alloc(), &text_cuts())
 }
 

@@ -2,7 +2,7 @@
 //!
 //! - A `Row` is a run: its words and input, and what is wanted of it. `dumps`, `conversions`, `buildings`,
 //!   `modifications`, `dictionaries`, `signs`, `unknown`, `text_sets`, `text_extensions`, `text_terms`, `text_cuts`,
-//!   `named_elements`, `identities`, `identity_days`, `identity_emptied`, `identity_heads`, `identity_put`,
+//!   `text_unknown`, `named_elements`, `identities`, `identity_days`, `identity_emptied`, `identity_heads`, `identity_put`,
 //!   `identity_moved`, `identity_named`, `identity_unnamed` and `identity_faults` are tables of rows.
 //! - `expect_rows` expects the answers of rows. `expect_runs` expects one, in pieces of several sizes.
 //! - `over_memory` and `over_std` are runs of words over one input, and `expect_answer` compares an `Answer` with what
@@ -42,4 +42,5 @@ pub use tables::text_cuts::text_cuts;
 pub use tables::text_extensions::text_extensions;
 pub use tables::text_sets::text_sets;
 pub use tables::text_terms::text_terms;
+pub use tables::text_unknown::text_unknown;
 pub use tables::unknown::unknown;

@@ -4,6 +4,7 @@ mod examples;
 mod failing;
 mod in_force;
 mod long;
+mod not_known;
 mod outputs;
 mod plain;
 mod program;
@@ -15,6 +16,7 @@ use crate::runs::expect_rows;
 use decoded::decoded;
 use ends::ends;
 use in_force::in_force;
+use not_known::not_known;
 use plain::plain;
 use representations::representations;
 use std::test::Fail;
@@ -43,6 +45,11 @@ fn texts_as_characters(rt: HostRuntime) -> Result<(), Fail> {
 #[test]
 fn what_is_in_force(rt: HostRuntime) -> Result<(), Fail> {
     expect_rows(rt.alloc(), in_force())
+}
+
+#[test]
+fn sets_that_are_not_known(rt: HostRuntime) -> Result<(), Fail> {
+    expect_rows(rt.alloc(), not_known())
 }
 
 #[test]

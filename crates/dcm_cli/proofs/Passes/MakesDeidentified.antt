@@ -106,9 +106,9 @@ module _ (options : Options) (key : List ℕ) where
 
   -- what is remarked by the states of the sinks
   abbrev pub state_remarks : FileState → Ending → Remarks
-  state_remarks t passed = record { unnamed = is_unnamed t.0 (ends_whole passed); emptied = t.1.0.place.seen.emptied }
+  state_remarks t passed = record { unnamed = is_unnamed t.0 (ends_whole passed); emptied = t.1.0.place.seen.emptied; unknown = false }
 
-  both_remarked : (unnamed also : Bool) (count as_many : ℕ) → unnamed ≡ also → count ≡ as_many → ◌≡◌ {A = Remarks} (record { unnamed = unnamed; emptied = count }) (record { unnamed = also; emptied = as_many })
+  pub both_remarked : (unnamed also : Bool) (count as_many : ℕ) → unnamed ≡ also → count ≡ as_many → ◌≡◌ {A = Remarks} (record { unnamed = unnamed; emptied = count; unknown = false }) (record { unnamed = also; emptied = as_many; unknown = false })
   both_remarked unnamed also count as_many p q = cc
 
   -- of what was read of a data set

@@ -19,7 +19,7 @@ use Rattle.dcm_stream.proofs.Steps.ReadsSome.{plain, in_order, for_target}
 use Rattle.dcm_editor.proofs.ReadBack.IdentityBar.{identity_read}
 use Rattle.dcm_words.specs.declared.job.Texts.{Texts}
 use Rattle.dcm_words.specs.Words.{Job, dump, dump_decoded, dump_named, Named, convert, build as building, modify, deidentify}
-use Rattle.dcm_cli.specs.Answer.{job_dictionary, HeadIs, Answer, Answers, Source, unopened, file as a_file, alone, answer, built_answer, set_at, job_bar, target_syntax, refuses_change, FileReads, not_opened, not_changed, opened, AloneReads}
+use Rattle.dcm_cli.specs.Answer.{job_dictionary, HeadIs, Answer, Answers, Source, unopened, file as a_file, alone, answer, built_answer, set_at, job_bar, target_syntax, refuses_change, FileReads, InputReads, not_opened, not_changed, opened, AloneReads}
 use Rattle.dcm_cli.proofs.Passes.MetaHeads.{group_spelled}
 use Rattle.dcm_cli.proofs.Runs.OneSource.{one_source}
 
@@ -32,6 +32,19 @@ pub alone_once : (syntax : Syntax) (bytes : List ℕ) (x y : Source) → AloneRe
 alone_once syntax bytes x y h k =
     let one = reads_once no_bar syntax 0 bytes h.set k.set h.stop k.stop h.reads k.reads in
     h.source_is ∙ ap (λ (f : Front). alone syntax f h.stop) one.0 ∙ ap (λ (stop : Stop). alone syntax k.set stop) one.1 ∙ sym k.source_is
+
+-- an input is read in one way
+pub one_input : (job : Job) (input : List ℕ) (x y : Source) → InputReads job input x → InputReads job input y → x ≡ y
+one_input (dump d mode None) input x y a b = one_source (dump d mode None) input x y a b
+one_input (dump d mode (Some s)) input x y a b = alone_once (read_by d s) input x y a b
+one_input (dump_decoded d mode None) input x y a b = one_source (dump_decoded d mode None) input x y a b
+one_input (dump_decoded d mode (Some s)) input x y a b = alone_once (read_by d s) input x y a b
+one_input (dump_named texts d mode None n) input x y a b = one_source (dump_named texts d mode None n) input x y a b
+one_input (dump_named texts d mode (Some s) n) input x y a b = alone_once (read_by d s) input x y a b
+one_input (convert d target) input x y a b = one_source (convert d target) input x y a b
+one_input (building limit) input x y a b = one_source (building limit) input x y a b
+one_input (modify d edits) input x y a b = one_source (modify d edits) input x y a b
+one_input (deidentify options reports key) input x y a b = one_source (deidentify options reports key) input x y a b
 
 dumped_once : (d : Dictionary) (mode : Mode) (bare : Option Syntax) (input : List ℕ) (a b : Answer) → Answers (dump d mode bare) input a → Answers (dump d mode bare) input b → a ≡ b
 dumped_once d mode None input a b x y = alike (dump d mode None) a b x.source y.source x.answer_is y.answer_is (one_source (dump d mode None) input x.source y.source x.reads y.reads)

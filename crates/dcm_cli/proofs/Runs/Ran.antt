@@ -30,15 +30,16 @@ use Rattle.dcm_cli.specs.Pass.{TellsUnread, TellsOutput}
 use Rattle.dcm_cli.specs.InputCalls.{How, Allows}
 use Rattle.dcm_cli.specs.declared.ending.Remarks.{Remarks}
 use Rattle.dcm_cli.specs.Remarks.{no_remarks, remark_lines, remarks_at, remarks_told}
-use Rattle.dcm_cli.specs.Run.{Remarked, RemarkedAs, SoFarRemarked, source_remarks, AnsweredAll, AnswersAll, IsDecided, IsMeant, Answered, ReadEnds, BuildEnds, Worked, answered, could_not_read, could_not_write, FlushedAs, done_verdict, verdict_at, verdict_of_source, verdict_of_line_stop, unplaced_mask, verdict_lines, verdict_status, ending_lines, ending_status, Ran, as_answered, not_read, not_written, not_flushed}
+use Rattle.dcm_cli.specs.Run.{Remarked, RemarkedAs, source_remarks, AnsweredAll, AnswersAll, IsDecided, IsMeant, Answered, ReadEnds, BuildEnds, Worked, answered, could_not_read, could_not_write, FlushedAs, done_verdict, verdict_at, verdict_of_source, verdict_of_line_stop, unplaced_mask, verdict_lines, verdict_status, ending_lines, ending_status, Ran, as_answered, not_read, not_written, not_flushed}
 use Rattle.dcm_cli.specs.Change.{Change}
 use Rattle.dcm_cli.specs.ErrorLines.{Reports, pixels_line}
 use Rattle.dcm_words.specs.Plans.{job_of}
 use Rattle.dcm_cli.proofs.Passes.Files.{pixels_verdict}
 use Rattle.dcm_cli.proofs.Passes.MakesEdits.{are_few}
 use Rattle.dcm_cli.proofs.Passes.Readers.{allows_nothing}
+use Rattle.dcm_cli.proofs.Passes.Remarked.{source_remarks_nothing}
 use Rattle.dcm_cli.proofs.Runs.OneAnswer.{one_answer}
-use Rattle.dcm_cli.proofs.Runs.OneSource.{one_source}
+use Rattle.dcm_cli.proofs.Runs.OneRemark.{one_remarked_of}
 use Rattle.dcm_cli.proofs.Lines.Unplaced.{no_lines, lines_of_mask, status_of_mask, few_without, few_edits}
 
 -- the answer of an input that was read
@@ -169,51 +170,30 @@ module _ (limit : ℕ) (input out : List ℕ) (verdict : Verdict) (h : BuildEnds
   built_given : Given (building limit) input out verdict
   built_given = by_told (build.built limit input).told refl
 
--- jobs that remark nothing
-abbrev RemarksNothing : Job → Type 0
-RemarksNothing job = (source : Source) → source_remarks job source ≡ no_remarks
-
-dump_remarks : (d : Dictionary) (mode : Mode) (bare : Option Syntax) → RemarksNothing (dump d mode bare)
-dump_remarks d mode bare (unopened fault offset) = refl
-dump_remarks d mode bare (file meta coding set stop) = refl
-dump_remarks d mode bare (alone syntax set stop) = refl
-
-decoded_remarks : (d : Dictionary) (mode : Mode) (bare : Option Syntax) → RemarksNothing (dump_decoded d mode bare)
-decoded_remarks d mode bare (unopened fault offset) = refl
-decoded_remarks d mode bare (file meta coding set stop) = refl
-decoded_remarks d mode bare (alone syntax set stop) = refl
-
-named_remarks : (texts : Texts) (d : Dictionary) (mode : Mode) (bare : Option Syntax) (n : Named) → RemarksNothing (dump_named texts d mode bare n)
-named_remarks texts d mode bare n (unopened fault offset) = refl
-named_remarks texts d mode bare n (file meta coding set stop) = refl
-named_remarks texts d mode bare n (alone syntax set stop) = refl
-
-convert_remarks : (d : Dictionary) (target : Option Syntax) → RemarksNothing (convert d target)
-convert_remarks d target (unopened fault offset) = refl
-convert_remarks d target (file meta coding set stop) = refl
-convert_remarks d target (alone syntax set stop) = refl
-
-modify_remarks : (d : Dictionary) (edits : List Edit) → RemarksNothing (modify d edits)
-modify_remarks d edits (unopened fault offset) = refl
-modify_remarks d edits (file meta coding set stop) = refl
-modify_remarks d edits (alone syntax set stop) = refl
-
 -- by how texts are shown
 dumped_given : (texts : Texts) (d : Dictionary) (mode : Mode) (bare : Option Syntax) (input out : List ℕ) (verdict : Verdict) → Answered (dump_as texts d mode bare) input out verdict → Given (dump_as texts d mode bare) input out verdict
-dumped_given Bytes d mode bare input out verdict h = reads_given (dump d mode bare) input out verdict (dump_told d mode bare) (λ a reads. reads) h (λ r is. is ∙ sym (dump_remarks d mode bare h.source))
-dumped_given Characters d mode bare input out verdict h = reads_given (dump_decoded d mode bare) input out verdict (decoded_told d mode bare) (λ a reads. reads) h (λ r is. is ∙ sym (decoded_remarks d mode bare h.source))
+dumped_given Bytes d mode bare input out verdict h =
+    reads_given (dump d mode bare) input out verdict (dump_told d mode bare) (λ a reads. reads) h (λ r is. is ∙ sym (source_remarks_nothing (dump d mode bare) (λ set. refl) h.source))
+dumped_given Characters d mode bare input out verdict h =
+    reads_given (dump_decoded d mode bare) input out verdict (decoded_told d mode bare) (λ a reads. reads) h (one_remarked_of (dump_decoded d mode bare) input h.source h.reads)
+
+named_given : (texts : Texts) (d : Dictionary) (mode : Mode) (bare : Option Syntax) (n : Named) (input out : List ℕ) (verdict : Verdict) → Answered (dump_named texts d mode bare n) input out verdict → Given (dump_named texts d mode bare n) input out verdict
+named_given Bytes d mode bare n input out verdict h =
+    reads_given (dump_named Bytes d mode bare n) input out verdict (named_told Bytes d mode bare n) (λ a reads. reads) h (λ r is. is ∙ sym (source_remarks_nothing (dump_named Bytes d mode bare n) (λ set. refl) h.source))
+named_given Characters d mode bare n input out verdict h =
+    reads_given (dump_named Characters d mode bare n) input out verdict (named_told Characters d mode bare n) (λ a reads. reads) h (one_remarked_of (dump_named Characters d mode bare n) input h.source h.reads)
 
 given : {A : Type 0} (job : RunJob A) → IsMeant (job_of job) → (input out : List ℕ) (verdict : Verdict) → Answered (job_of job) input out verdict → Given (job_of job) input out verdict
 given (Dump d) meant input out verdict h =
     let n = named_as d.named in
     of_named (λ (j : Job). Answered j input out verdict → Given j input out verdict) n d.texts d.dictionary d.mode d.bare (dumped_given d.texts d.dictionary d.mode d.bare input out verdict)
-    (λ h. reads_given (dump_named d.texts d.dictionary d.mode d.bare n) input out verdict (named_told d.texts d.dictionary d.mode d.bare n) (λ a reads. reads) h (λ r is. is ∙ sym (named_remarks d.texts d.dictionary d.mode d.bare n h.source))) h
-given (Convert c) meant input out verdict h = reads_given (convert c.dictionary c.target) input out verdict (convert_told c.dictionary c.target) (λ a reads. reads) h (λ r is. is ∙ sym (convert_remarks c.dictionary c.target h.source))
+    (named_given d.texts d.dictionary d.mode d.bare n input out verdict) h
+given (Convert c) meant input out verdict h = reads_given (convert c.dictionary c.target) input out verdict (convert_told c.dictionary c.target) (λ a reads. reads) h (λ r is. is ∙ sym (source_remarks_nothing (convert c.dictionary c.target) (λ set. refl) h.source))
 given (Build b) meant input out verdict h = built_given b.limit input out verdict h
-given (Modify m) meant input out verdict h = reads_given (modify m.dictionary m.edits) input out verdict (modify_told m.dictionary m.edits (are_few m.dictionary m.edits meant)) (λ a reads. reads) h (λ r is. is ∙ sym (modify_remarks m.dictionary m.edits h.source))
+given (Modify m) meant input out verdict h = reads_given (modify m.dictionary m.edits) input out verdict (modify_told m.dictionary m.edits (are_few m.dictionary m.edits meant)) (λ a reads. reads) h (λ r is. is ∙ sym (source_remarks_nothing (modify m.dictionary m.edits) (λ set. refl) h.source))
 given (Deidentify d) meant input out verdict h =
     reads_given (deidentify d.options d.reports d.key.items) input out verdict (deidentify_told d.options d.reports d.key.items) (λ a reads. reads) h
-    (λ r x. x.remarks_are ∙ ap (source_remarks (deidentify d.options d.reports d.key.items)) (one_source (deidentify d.options d.reports d.key.items) input x.source h.source x.reads h.reads))
+    (one_remarked_of (deidentify d.options d.reports d.key.items) input h.source h.reads)
 
 -- what was read, where the rest is known
 one_front : (before p rest left : List ℕ) → before ++ rest ≡ p ++ left → Some rest ≡ Some left → p ≡ before

@@ -193,8 +193,8 @@ nothing_flows_in_answers options reports key first second d e a b m n f g h k le
     let remarks : Remarks = remarks_at job f in
     let also : Remarks = remarks_at other g in
     let same_remarks : remarks ≡ also =
-    ap (λ (unnamed : Bool). record { unnamed = unnamed; emptied = dates_emptied one (made_new one key) f }) (unnamed_alike options key d e f g v w rises ascends alike)
-    ∙ ap (λ (count : ℕ). record { unnamed = options.pseudonyms && names_nobody g; emptied = count }) (emptied_alike options key d e f g v w rises ascends alike)
+    ap (λ (unnamed : Bool). record { unnamed = unnamed; emptied = dates_emptied one (made_new one key) f; unknown = false }) (unnamed_alike options key d e f g v w rises ascends alike)
+    ∙ ap (λ (count : ℕ). record { unnamed = options.pseudonyms && names_nobody g; emptied = count; unknown = false }) (emptied_alike options key d e f g v w rises ascends alike)
     in
     h.answers.answer_is ∙ ap (answer job) h.source_is
     ∙ ap (answer_of remarks (reports && shows_identity one key f)) outputs

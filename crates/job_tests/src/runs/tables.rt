@@ -19,4 +19,5 @@ pub mod text_cuts;
 pub mod text_extensions;
 pub mod text_sets;
 pub mod text_terms;
+pub mod text_unknown;
 pub mod unknown;

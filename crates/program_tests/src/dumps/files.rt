@@ -1,6 +1,6 @@
 // Rows of files among the words.
 use super::rows::Row;
-use super::rows::Shown::{Faulty, Unopened, Unread, Whole};
+use super::rows::Shown::{Faulty, Remarked, Unopened, Unread, Whole};
 use crate::runs::Entry::{Broken, File, Folder};
 use dcm_test_devices::Start;
 
@@ -26,7 +26,32 @@ const OTHER: &[u8] = b"\n# dcmdump (4/4): other\n\n\
 # Dicom-Data-Set\n\
 # Used TransferSyntax: LittleEndianExplicit\n";
 
-static FILES: [Row; 7] = [
+static FILES: [Row; 8] = [
+    Row {
+        name: "a character set that is not known",
+        words: "dcmdump +u8 -f -te a b c",
+        names: &[],
+        files: &[
+            File(b"a", Start::Nothing, b"\x08\0\x05\0CS\x04\0FOO "),
+            File(b"b", Start::Nothing, b""),
+            File(b"c", Start::Nothing, b"\x08\0\x05\0CS\x04\0FOO no"),
+        ],
+        shown: &[
+            Remarked(
+                b"# dcmdump (1/3): a\n\n# Dicom-Data-Set (texts in UTF-8)\n# Used TransferSyntax: LittleEndianExplicit\n\
+(0008,0005) CS [FOO]                                    #   4, 1 SpecificCharacterSet\n",
+                b"dcmtools: a: character set is not known\n",
+            ),
+            Whole(
+                b"\n# dcmdump (2/3): b\n\n# Dicom-Data-Set (texts in UTF-8)\n# Used TransferSyntax: LittleEndianExplicit\n",
+            ),
+            Faulty(
+                b"\n# dcmdump (3/3): c\n\n# Dicom-Data-Set (texts in UTF-8)\n# Used TransferSyntax: LittleEndianExplicit\n\
+(0008,0005) CS [FOO]                                    #   4, 1 SpecificCharacterSet\n",
+                b"dcmtools: c: character set is not known\ndcmtools: c: R1 at byte 14: input ends too early\n",
+            ),
+        ],
+    },
     Row {
         name: "two files",
         words: "dcmdump -f -te a b",

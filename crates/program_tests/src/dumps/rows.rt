@@ -6,6 +6,8 @@ use crate::runs::Entry;
 pub enum Shown {
     /// Its heading and its dump.
     Whole(&'static [u8]),
+    /// These, and a line that changes no status.
+    Remarked(&'static [u8], &'static [u8]),
     /// These, and a line. The status is 2.
     Faulty(&'static [u8], &'static [u8]),
     /// These, where reading fails, and a line. The status is 4.
@@ -18,7 +20,8 @@ impl Shown {
     /// What is written.
     pub fn text(&self) -> &'static [u8] {
         match *self {
-            Shown::Whole(text) | Shown::Faulty(text, _) | Shown::Unread(text, _) => text,
+            Shown::Whole(text) | Shown::Remarked(text, _) => text,
+            Shown::Faulty(text, _) | Shown::Unread(text, _) => text,
             Shown::Unopened(_) => b"",
         }
     }
@@ -27,14 +30,15 @@ impl Shown {
     pub fn line(&self) -> &'static [u8] {
         match *self {
             Shown::Whole(_) => b"",
-            Shown::Faulty(_, line) | Shown::Unread(_, line) | Shown::Unopened(line) => line,
+            Shown::Remarked(_, line) | Shown::Faulty(_, line) => line,
+            Shown::Unread(_, line) | Shown::Unopened(line) => line,
         }
     }
 
     /// The status that it asks for at least.
     pub fn status(&self) -> u8 {
         match *self {
-            Shown::Whole(_) => 0,
+            Shown::Whole(_) | Shown::Remarked(_, _) => 0,
             Shown::Faulty(_, _) => 2,
             Shown::Unread(_, _) | Shown::Unopened(_) => 4,
         }

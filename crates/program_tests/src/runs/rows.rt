@@ -82,6 +82,8 @@ pub fn load(alloc: Global, entries: &[Entry]) -> Result<Vec<Loaded>, AllocError>
 pub enum Done {
     /// Its row.
     Whole(&'static [u8], &'static [u8], &'static [u8]),
+    /// Its row, and a line that changes no status.
+    Remarked(&'static [u8], &'static [u8], &'static [u8], &'static [u8]),
     /// Its row as far as a fault, and the fault. The status is 2.
     Faulty(&'static [u8], &'static [u8], &'static [u8], &'static [u8]),
     /// No row, since its first read fails. The status is 4. A list has no path here.
@@ -94,7 +96,8 @@ impl Done {
     /// The path that is opened for it, or none.
     pub fn path(&self) -> &'static [u8] {
         match *self {
-            Done::Whole(path, _, _) | Done::Faulty(path, _, _, _) | Done::Unread(path, _) => path,
+            Done::Whole(path, _, _) | Done::Unread(path, _) => path,
+            Done::Remarked(path, _, _, _) | Done::Faulty(path, _, _, _) => path,
             Done::Unopened(_) => b"",
         }
     }
@@ -102,7 +105,8 @@ impl Done {
     /// The name in lines.
     pub fn shown(&self) -> &'static [u8] {
         match *self {
-            Done::Whole(_, shown, _) | Done::Faulty(_, shown, _, _) => shown,
+            Done::Whole(_, shown, _) => shown,
+            Done::Remarked(_, shown, _, _) | Done::Faulty(_, shown, _, _) => shown,
             Done::Unread(_, shown) | Done::Unopened(shown) => shown,
         }
     }
@@ -110,7 +114,8 @@ impl Done {
     /// Its row, where it has one.
     pub fn row(&self) -> &'static [u8] {
         match *self {
-            Done::Whole(_, _, row) | Done::Faulty(_, _, row, _) => row,
+            Done::Whole(_, _, row) => row,
+            Done::Remarked(_, _, row, _) | Done::Faulty(_, _, row, _) => row,
             Done::Unread(_, _) | Done::Unopened(_) => b"",
         }
     }
@@ -119,7 +124,7 @@ impl Done {
     pub fn report(&self) -> Option<&'static [u8]> {
         match *self {
             Done::Whole(_, _, _) => None,
-            Done::Faulty(_, _, _, fault) => Some(fault),
+            Done::Remarked(_, _, _, line) | Done::Faulty(_, _, _, line) => Some(line),
             Done::Unread(_, _) => Some(b"reading failed after 0 bytes"),
             Done::Unopened(_) => Some(NOT_OPENED),
         }
@@ -128,7 +133,7 @@ impl Done {
     /// The status that it asks for at least.
     pub fn status(&self) -> u8 {
         match *self {
-            Done::Whole(_, _, _) => 0,
+            Done::Whole(_, _, _) | Done::Remarked(_, _, _, _) => 0,
             Done::Faulty(_, _, _, _) => FAULT,
             Done::Unread(_, _) | Done::Unopened(_) => DEVICE,
         }

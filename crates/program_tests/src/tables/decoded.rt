@@ -1,5 +1,5 @@
 // Rows of texts as characters.
-use crate::runs::Done::Whole;
+use crate::runs::Done::{Remarked, Whole};
 use crate::runs::Entry::File;
 use crate::runs::Row;
 use dcm_test_devices::Start;
@@ -104,7 +104,12 @@ static DECODED: [Row; 8] = [
             Start::ExplicitLittle,
             b"\x08\0\x05\0CS\x04\0FOO \x10\0\x10\0PN\x02\0\xc3\xa9",
         )],
-        done: &[Whole(b"x", b"x", b"\"x\",\"\\xc3\\xa9\"\n")],
+        done: &[Remarked(
+            b"x",
+            b"x",
+            b"\"x\",\"\\xc3\\xa9\"\n",
+            b"character set is not known",
+        )],
     },
     Row {
         name: "a character that is cut",

@@ -1,6 +1,7 @@
 // Runs over an output, or a standard error, that fails.
 use super::decoded::decoded;
 use super::ends::ends;
+use super::not_known::not_known;
 use super::plain::plain;
 use super::representations::representations;
 use super::texts::texts;
@@ -25,6 +26,11 @@ fn writing_fails_of_texts(rt: HostRuntime) -> Result<(), Fail> {
 #[test]
 fn writing_fails_of_characters(rt: HostRuntime) -> Result<(), Fail> {
     writes_fail(rt.alloc(), decoded())
+}
+
+#[test]
+fn writing_fails_where_sets_are_not_known(rt: HostRuntime) -> Result<(), Fail> {
+    writes_fail(rt.alloc(), not_known())
 }
 
 #[test]

@@ -10,6 +10,7 @@ use Rattle.dcm_sinks.specs.EncodeSink.{EncodeState, encode_step, encode_writes, 
 use Rattle.dcm_sinks.specs.Encoder.{state as encoder_state}
 use Rattle.dcm_cli.specs.declared.ending.Ended.{Ended}
 use Rattle.dcm_cli.specs.declared.ending.Ending.{Ending}
+use Rattle.dcm_cli.specs.declared.ending.Remarks.{Remarks}
 use Rattle.dcm_cli.specs.Calls.{Opens, WorksOn}
 use Rattle.dcm_cli.specs.InputCalls.{Allows, Reader, IsUndecided}
 use Rattle.dcm_cli.specs.Opening.{HeadChange, without_identity}
@@ -18,7 +19,8 @@ use Rattle.dcm_cli.specs.Run.{RemarkedAs, Worked}
 use Rattle.dcm_cli.proofs.Passes.Decided.{decided_by, not_opened_decided, set_decided, still_without_pixels}
 use Rattle.dcm_cli.proofs.Passes.DeidentifyPasses.{deidentify_not_opened, deidentify_worked}
 use Rattle.dcm_cli.proofs.Passes.MakesDeidentified.{file_deidentifier}
-use Rattle.dcm_cli.proofs.Passes.Remarked.{not_opened_remarked, set_remarked}
+use Rattle.dcm_cli.proofs.Passes.Remarked.{set_remarked}
+use Rattle.dcm_cli.proofs.Passes.RemarkedDates.{all_told, not_opened_remarked, with_pixels_remarked}
 use Rattle.dcm_cli.proofs.Passes.Readers.{members, writer, allows_any, allows_nothing, nothing_follows, ends_empty, joined}
 use Rattle.dcm_cli.proofs.Runs.Stopping.{head_reads, head_undecided, began_gave, opened_undecided}
 use Rattle.dcm_cli.proofs.deidentify.deidentify_file.Goals as goal
@@ -102,5 +104,8 @@ returns g c =
         failed = search rules;
       };
       remarked = subst (λ (e : Ending). RemarkedAs job (x.read ++ set.more) j.how e ended.remarks) (sym pass.ending_is)
-          (set_remarked what.options what.reports what.key.items opened.coding x.read set.more x.how j.how buffer x.opens.reading opened.beginning opened.start x.opens.head (λ rest ok. (j.allows rest ok).0) (pass.whom, (pass.last, last)) ended.remarks mid holds shows pass.passed pass.remarks_are pass.was ends_at);
+          (with_pixels_remarked what.options what.reports what.key.items (x.read ++ set.more) j.how pass.passed ended.remarks shows
+          (subst (λ (r : Remarks). RemarkedAs job (x.read ++ set.more) j.how pass.passed r) (sym pass.remarks_are)
+          (set_remarked job refl opened.coding refl (maker opened.coding) x.read set.more x.how j.how buffer x.opens.reading opened.beginning opened.start x.opens.head (λ rest ok. (j.allows rest ok).0) (pass.whom, (pass.last, last)) _
+          (all_told what.options what.reports what.key.items opened.coding.syntax opened.start (pass.whom, (pass.last, last))) mid holds pass.passed pass.was ends_at)));
     }

@@ -1,4 +1,4 @@
-use Rattle.std.proofs.Common.{◌≡◌, ◌∙◌, ap, subst, ℕ, List, Bool, Option, rules}
+use Rattle.std.proofs.Common.{◌≡◌, ◌∙◌, ap, subst, ℕ, List, Bool, false, Option, rules}
 use Rattle.std.specs.Prelude.{◌&&◌}
 use Rattle.dcm_stream.specs.Reading.{start_of}
 use Rattle.dcm_deid.specs.Deidentifying as deidentifying
@@ -11,7 +11,7 @@ use Rattle.dcm_cli.specs.Pass as spec
 use Rattle.dcm_cli.proofs.Passes.Readers.{members}
 use Rattle.dcm_cli.proofs.deidentify.read_deidentified.Goals as goal
 
-both_remarked : (unnamed also : Bool) (count as_many : ℕ) → unnamed ≡ also → count ≡ as_many → ◌≡◌ {A = Remarks} (record { unnamed = unnamed; emptied = count }) (record { unnamed = also; emptied = as_many })
+both_remarked : (unnamed also : Bool) (count as_many : ℕ) → unnamed ≡ also → count ≡ as_many → ◌≡◌ {A = Remarks} (record { unnamed = unnamed; emptied = count; unknown = false }) (record { unnamed = also; emptied = as_many; unknown = false })
 both_remarked unnamed also count as_many p q = cc
 
 pub returns : goal.returns

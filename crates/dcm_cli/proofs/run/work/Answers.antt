@@ -1,42 +1,19 @@
-use Rattle.std.proofs.Common.{◌≡◌, Global, ℕ, List, ◌++◌, Option, refl, sym, subst}
+use Rattle.std.proofs.Common.{Global, Option, refl, sym, subst}
 use Rattle.dcm_words.specs.Plans.{named_as}
 use Rattle.dcm_cli.proofs.Passes.NamedJobs.{of_named}
-use Rattle.dcm_devices.specs.Writing.{Writer}
 use Rattle.dcm_base.specs.declared.dictionary.Dictionary.{Dictionary}
 use Rattle.dcm_base.specs.declared.mode.Mode.{Mode}
 use Rattle.dcm_base.specs.declared.syntax.Syntax.{Syntax}
 use Rattle.dcm_words.specs.declared.job.Texts.{Texts}
 use Rattle.dcm_words.specs.declared.job.Texts.TheVariants.{Bytes, Characters}
-use Rattle.dcm_words.specs.Words.{Job as WordJob, dump_as}
+use Rattle.dcm_words.specs.Words.{dump_as}
 use Rattle.dcm_words.specs.declared.job.Job.{Job}
 use Rattle.dcm_words.specs.Plans.{job_of}
-use Rattle.dcm_cli.specs.declared.ending.Ended.{Ended}
-use Rattle.dcm_cli.specs.declared.ending.Ending.{Ending}
-use Rattle.dcm_cli.specs.declared.ending.Ending.TheVariants.{Worked, Unread, Output}
-use Rattle.dcm_cli.specs.Calls.{Reader, Works, WorksOn}
-use Rattle.dcm_cli.specs.InputCalls.{How}
-use Rattle.dcm_cli.specs.Remarks.{no_remarks, remarking_nothing}
-use Rattle.dcm_cli.specs.Run.{IsMeant, Remarked, RemarkedAs, SoFarRemarked}
+use Rattle.dcm_cli.specs.Calls.{WorksOn}
+use Rattle.dcm_cli.specs.Run.{IsMeant}
 use Rattle.dcm_cli.proofs.Passes.Readers.{members, writer}
+use Rattle.dcm_cli.proofs.Passes.Remarked.{works_on}
 use Rattle.dcm_cli.proofs.run.work.Goals as goal
-
--- jobs that remark nothing
-abbrev RemarksNone : WordJob → Type 0
-RemarksNone job = ((input : List ℕ) → Remarked job input no_remarks) × ((p : List ℕ) → SoFarRemarked job p no_remarks)
-
-nothing_remarked : (job : WordJob) → RemarksNone job → (given : List ℕ) (how : How) (ending : Ending) → RemarkedAs job given how ending no_remarks
-nothing_remarked job none given how (Worked verdict) = λ rest ok. none.0 (given ++ rest)
-nothing_remarked job none given how (Unread count) = none.1 given
-nothing_remarked job none given how Output = tt
-
-dump_remarks : (texts : Texts) (d : Dictionary) (mode : Mode) (bare : Option Syntax) → RemarksNone (dump_as texts d mode bare)
-dump_remarks Bytes d mode bare = (λ input. refl, λ p. refl)
-dump_remarks Characters d mode bare = (λ input. refl, λ p. refl)
-
-works_on : {R W : Type 0} (r : Reader R) (w : Writer W) (job : WordJob) (before after : R) (held holds : W) (ending : Ending) (ended : Ended) → RemarksNone job → Works r w job before after held holds ending → ended ≡ remarking_nothing ending
-    → WorksOn r w job before after held holds ended
-works_on r w job before after held holds ending ended none works is =
-    subst (WorksOn r w job before after held holds) (sym is) (record { works = works; remarked = nothing_remarked job none works.given works.how ending })
 
 -- a dump needs nothing
 dump_meant : (texts : Texts) (d : Dictionary) (mode : Mode) (bare : Option Syntax) → IsMeant (dump_as texts d mode bare)
@@ -45,15 +22,13 @@ dump_meant Characters d mode bare = tt
 
 pub returns-in-Dump-clause-worked : goal.returns-in-Dump-clause-worked
 returns-in-Dump-clause-worked g c =
-    let d = c.in-Dump.what in
-    subst (λ (job : Job Global). WorksOn (members g.R.Device g.R.DeviceIn) (writer g.W.Device g.W.DeviceOut) (job_of job) c.args.input.now c.dump.new.input c.args.out.now c.dump.new.out c.remarking_nothing.result) (sym c.in-Dump.is)
-    (works_on (members g.R.Device g.R.DeviceIn) (writer g.W.Device g.W.DeviceOut) _ c.args.input.now c.dump.new.input c.args.out.now c.dump.new.out c.dump.result c.remarking_nothing.result (of_named RemarksNone (named_as d.named) d.texts d.dictionary d.mode d.bare (dump_remarks d.texts d.dictionary d.mode d.bare) (λ input. refl, λ p. refl)) c.dump.ensures c.remarking_nothing.ensures)
+    subst (λ (job : Job Global). WorksOn (members g.R.Device g.R.DeviceIn) (writer g.W.Device g.W.DeviceOut) (job_of job) c.args.input.now c.dump.new.input c.args.out.now c.dump.new.out c.dump.result) (sym c.in-Dump.is) c.dump.ensures
 
 pub returns-in-Convert-clause-worked : goal.returns-in-Convert-clause-worked
 returns-in-Convert-clause-worked g c =
     let d = c.in-Convert.what in
-    subst (λ (job : Job Global). WorksOn (members g.R.Device g.R.DeviceIn) (writer g.W.Device g.W.DeviceOut) (job_of job) c.args.input.now c.convert.new.input c.args.out.now c.convert.new.out c.remarking_nothing-in-Convert.result) (sym c.in-Convert.is)
-    (works_on (members g.R.Device g.R.DeviceIn) (writer g.W.Device g.W.DeviceOut) _ c.args.input.now c.convert.new.input c.args.out.now c.convert.new.out c.convert.result c.remarking_nothing-in-Convert.result (λ input. refl, λ p. refl) c.convert.ensures c.remarking_nothing-in-Convert.ensures)
+    subst (λ (job : Job Global). WorksOn (members g.R.Device g.R.DeviceIn) (writer g.W.Device g.W.DeviceOut) (job_of job) c.args.input.now c.convert.new.input c.args.out.now c.convert.new.out c.remarking_nothing.result) (sym c.in-Convert.is)
+    (works_on (members g.R.Device g.R.DeviceIn) (writer g.W.Device g.W.DeviceOut) _ c.args.input.now c.convert.new.input c.args.out.now c.convert.new.out c.convert.result c.remarking_nothing.result (λ input. refl, λ p. refl) c.convert.ensures c.remarking_nothing.ensures)
 
 pub returns-in-Build-clause-worked : goal.returns-in-Build-clause-worked
 returns-in-Build-clause-worked g c =

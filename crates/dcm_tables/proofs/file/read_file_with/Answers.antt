@@ -30,7 +30,7 @@ pub returns-in-Err-Unread-clause-reads : goal.returns-in-Err-Unread-clause-reads
 returns-in-Err-Unread-clause-reads g c =
     not_read c.read_head_of.new.meta c.args.buffer.now c.read_head_of.new.buffer c.in-Err-Unread.read
     (subst (λ (e : HeadEnding). HeadReads (members g.R.Device g.R.DeviceIn) c.args.input.now c.read_head_of.new.input c.read_head_of.new.meta c.args.buffer.now c.read_head_of.new.buffer (Err e)) c.in-Err-Unread.field-0-is c.in-Err-Unread.ensures)
-    refl
+    c.clear.ensures refl
 
 pub returns-in-Err-Unread-clause-kept : goal.returns-in-Err-Unread-clause-kept
 returns-in-Err-Unread-clause-kept g c = kept_emptied c.args.cells.now c.clear.new.self c.clear.new.self c.clear.ensures refl

@@ -8,7 +8,7 @@ use Rattle.dcm_tables.proofs.rows.do_file.Goals as goal
 pub returns-in-Unread-clause-does : goal.returns-in-Unread-clause-does
 returns-in-Unread-clause-does g c =
     not_read c.read_file_with.new.cells c.in-Unread.read c.in-Unread.ensures.reads refl
-    (told (writer g.E.Device g.E.DeviceOut) c.args.errors.now c.put_unread.new.errors _ c.put_unread.result c.put_unread.ensures) refl
+    (told (writer g.E.Device g.E.DeviceOut) c.args.errors.now c.put_unread_lines.new.errors _ c.put_unread_lines.result c.put_unread_lines.ensures) refl
 
 pub returns-in_ok-put_row-in-Read-clause-does : goal.returns-in_ok-put_row-in-Read-clause-does
 returns-in_ok-put_row-in-Read-clause-does g c =

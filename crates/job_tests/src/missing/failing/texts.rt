@@ -1,6 +1,6 @@
 // Dumps by characters over devices that fail.
-use super::{expect_written, reads_fail, writes_fail};
-use crate::runs::{text_cuts, text_extensions, text_sets, text_terms};
+use super::{expect_written, reads_fail, tells_fail, writes_fail};
+use crate::runs::{text_cuts, text_extensions, text_sets, text_terms, text_unknown};
 use std::test::Fail;
 
 #[test]
@@ -23,6 +23,16 @@ fn reading_fails_in_cut_texts(rt: HostRuntime) -> Result<(), Fail> {
 fn writing_fails(rt: HostRuntime) -> Result<(), Fail> {
     let [_, _, data_sets, others] = text_terms();
     writes_fail(rt.alloc(), &[data_sets, others])
+}
+
+#[test]
+fn writing_fails_where_sets_are_not_known(rt: HostRuntime) -> Result<(), Fail> {
+    writes_fail(rt.alloc(), &text_unknown())
+}
+
+#[test]
+fn telling_fails_where_sets_are_not_known(rt: HostRuntime) -> Result<(), Fail> {
+    tells_fail(rt.alloc(), &text_unknown())
 }
 
 /// Of a value that stands open the parts that are decided, and none of the bytes that wait for more.

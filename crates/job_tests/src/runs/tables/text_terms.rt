@@ -11,6 +11,7 @@ static TERMS: [Row; 6] = [
         input: b"\x08\0\x05\0CS\x04\0FOO \x10\0 \0LO\x06\0a\xe9\x1b(B ",
         header: Start::ExplicitLittle,
         lines: b"(0008,0005) CS [FOO]                                    #   4, 1 SpecificCharacterSet\n(0010,0020) LO [a%E9%1B(B]                              #   6, 1 PatientID\n",
+        told: b"dcmtools: character set is not known\n",
         ..EMPTY
     },
     Row {
@@ -20,6 +21,7 @@ static TERMS: [Row; 6] = [
         input: b"\x08\0\x05\0CS\x1e\0FOO\\ISO 2022 IR 87\\ISO_IR 192 \x10\0 \0LO\x08\0\xc3\xa9\x1b$B;3 ",
         header: Start::ExplicitLittle,
         lines: b"(0008,0005) CS [FOO\\ISO 2022 IR 87\\ISO_IR 192]          #  30, 3 SpecificCharacterSet\n(0010,0020) LO [%C3%A9\xe5\xb1\xb1]                              #   8, 1 PatientID\n",
+        told: b"dcmtools: character set is not known\n",
         ..EMPTY
     },
     Row {
@@ -29,6 +31,7 @@ static TERMS: [Row; 6] = [
         input: b"\x08\0\x05\0CS\x10\0ISO 2022 IR 192 \x10\0 \0LO\x02\0\xc3\xa9",
         header: Start::ExplicitLittle,
         lines: b"(0008,0005) CS [ISO 2022 IR 192]                        #  16, 1 SpecificCharacterSet\n(0010,0020) LO [%C3%A9]                                 #   2, 1 PatientID\n",
+        told: b"dcmtools: character set is not known\n",
         ..EMPTY
     },
     Row {
@@ -38,6 +41,7 @@ static TERMS: [Row; 6] = [
         input: b"\x08\0\x05\0CS\n\0iso_ir 100\x10\0 \0LO\x02\0\xe9 ",
         header: Start::ExplicitLittle,
         lines: b"(0008,0005) CS [iso_ir 100]                             #  10, 1 SpecificCharacterSet\n(0010,0020) LO [%E9]                                    #   2, 1 PatientID\n",
+        told: b"dcmtools: character set is not known\n",
         ..EMPTY
     },
     Row {
@@ -56,6 +60,7 @@ static TERMS: [Row; 6] = [
         input: b"\x08\0\x05\0CS\x02\x02ISO_IR 100                                                                                                                                                                                                                                                                                                                                                                                                                                                                                                                        \x10\0 \0LO\x02\0\xe9 ",
         header: Start::ExplicitLittle,
         lines: b"(0008,0005) CS [ISO_IR 100                                                                                                                                                                                                                                                                                                                                                                                                                                                                                                                       ] # 514, 1 SpecificCharacterSet\n(0010,0020) LO [%E9]                                    #   2, 1 PatientID\n",
+        told: b"dcmtools: character set is not known\n",
         ..EMPTY
     },
 ];

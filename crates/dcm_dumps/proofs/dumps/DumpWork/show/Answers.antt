@@ -16,5 +16,5 @@ pub returns-clause-shows : goal.returns-clause-shows
 returns-clause-shows g c =
     let self = c.args.self.now in
     file_shown (members g.I.Device g.I.DeviceIn) (writer g.W.Device g.W.DeviceOut) (dump_job self.dump) (heading self.is_first self.number self.total c.args.name.now) c.args.name.now
-    (change_of (writer g.E.Device g.E.DeviceOut) c.args.errors.now c.end_dump.new.errors) c.args.out.now c.put_heading.new.out c.dump_with-ending.new.out c.end_dump.new.out c.args.input.now c.dump_with-ending.new.input
-    c.dump_with-ending.result c.end_dump.result c.in_ok-put_heading.ensures.bytes c.in_ok-put_heading.ensures.failed c.dump_with-ending.ensures c.end_dump.ensures.ends
+    (change_of (writer g.E.Device g.E.DeviceOut) c.args.errors.now c.end_dump.new.errors) c.args.out.now c.put_heading.new.out c.dump_with-ended.new.out c.end_dump.new.out c.args.input.now c.dump_with-ended.new.input
+    c.dump_with-ended.result c.end_dump.result c.in_ok-put_heading.ensures.bytes c.in_ok-put_heading.ensures.failed c.dump_with-ended.ensures c.end_dump.ensures.ends

@@ -31,6 +31,6 @@ returns c =
     ap slots_of (with_items_is c.self.inside.slots c.take_in_span.new.slots size) ∙ c.take_in_span.ensures.changed
     ∙ ap (λ (x : List HeldSlot). changed_in f c.self.inside.busy 0 (slots_of x)) c.as_mut_slice.ensures.value in
     rw (← c.self.view_is)
-    (ap (λ (x : List Slot). let s : State = record { depth = depth c.self.inside.depth; greatest = c.self.inside.greatest; slots = x; setting = setting_of c.add.new.self } in s)
+    (ap (λ (x : List Slot). let s : State = record { depth = depth c.self.inside.depth; greatest = c.self.inside.greatest; slots = x; setting = setting_of c.add.new.self; unknown = c.self.inside.unknown } in s)
     (held ∙ indexed.busy_alone f (indexed.bytes_stay c.args.bytes.now) c.self.inside.busy 0 (slots_of items) c.self.inside.idle)
-    ∙ ap (λ (x : Option (List ℕ)). let s : State = record { depth = depth c.self.inside.depth; greatest = c.self.inside.greatest; slots = map f (slots_of items); setting = x } in s) c.add.ensures)
+    ∙ ap (λ (x : Option (List ℕ)). let s : State = record { depth = depth c.self.inside.depth; greatest = c.self.inside.greatest; slots = map f (slots_of items); setting = x; unknown = c.self.inside.unknown } in s) c.add.ensures)

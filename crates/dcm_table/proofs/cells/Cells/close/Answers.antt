@@ -33,5 +33,5 @@ returns c =
     ap slots_of (with_items_is c.self.inside.slots c.take_in_span.new.slots size) ∙ c.take_in_span.ensures.changed
     ∙ ap (λ (x : List HeldSlot). changed_in f c.self.inside.busy 0 (slots_of x)) c.as_mut_slice.ensures.value in
     rw (← c.self.view_is)
-    (ap (λ (x : List Slot). let s : State = record { depth = depth c.self.inside.depth; greatest = c.self.inside.greatest; slots = x; setting = setting_of c.self.inside.setting } in s)
+    (ap (λ (x : List Slot). let s : State = record { depth = depth c.self.inside.depth; greatest = c.self.inside.greatest; slots = x; setting = setting_of c.self.inside.setting; unknown = c.self.inside.unknown } in s)
     (held ∙ indexed.busy_alone f indexed.end_stays c.self.inside.busy 0 (slots_of items) c.self.inside.idle))

@@ -38,6 +38,6 @@ returns c =
     let more : (j : ℕ) → is_in (span_of c.self.inside.index c.args.head.tag) j ≡ true → is_in c.with-self-inside.result j ≡ true =
     λ j h. ap (λ (x : Span). is_in x j) c.with-self-inside.ensures ∙ indexed.in_second c.self.inside.busy c.span_of.result j (ap (λ (x : Span). is_in x j) c.span_of.ensures ∙ h) in
     rw (← c.self.view_is)
-    (ap (λ (x : List Slot). let s : State = record { depth = depth c.self.inside.depth; greatest = c.self.inside.greatest; slots = x; setting = setting_of c.self.inside.setting } in s)
+    (ap (λ (x : List Slot). let s : State = record { depth = depth c.self.inside.depth; greatest = c.self.inside.greatest; slots = x; setting = setting_of c.self.inside.setting; unknown = c.self.inside.unknown } in s)
     (held
     ∙ indexed.tag_alone c.self.inside.index c.args.head.tag f (λ s. indexed.head_stays s c.args.head.tag c.args.head.vr c.args.head.length c.args.syntax) c.with-self-inside.result more 0 (slots_of items) c.self.inside.indexed))

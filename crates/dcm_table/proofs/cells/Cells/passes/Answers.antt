@@ -8,5 +8,5 @@ pub returns : goal.returns
 returns c = λ is syntax value.
     let cells = c.self.inside in
     rw (← c.self.view_is)
-    (whole_passed (depth cells.depth) cells.greatest (slots_of cells.slots.items) cells.setting.is_open cells.setting.value.items cells.busy cells.index c.args.head.now syntax value
+    (whole_passed (depth cells.depth) (record { greatest = cells.greatest; unknown = cells.unknown }) (slots_of cells.slots.items) cells.setting.is_open cells.setting.value.items cells.busy cells.index c.args.head.now syntax value
     cells.indexed cells.idle (sym c.passes_by.ensures ∙ is))
