@@ -16,13 +16,21 @@ fn reading_and_flushing_fail(rt: HostRuntime) -> Result<(), Fail> {
 #[test]
 fn writing_fails(rt: HostRuntime) -> Result<(), Fail> {
     writes_fail(rt.alloc(), &identity_put())?;
-    writes_fail(rt.alloc(), &identity_emptied())?;
+    writes_fail(rt.alloc(), &identity_emptied())
+}
+
+#[test]
+fn writing_fails_where_nobody_is_named(rt: HostRuntime) -> Result<(), Fail> {
     writes_fail(rt.alloc(), &identity_unnamed())
 }
 
 #[test]
 fn telling_fails(rt: HostRuntime) -> Result<(), Fail> {
     tells_fail(rt.alloc(), &identity_put())?;
-    tells_fail(rt.alloc(), &identity_emptied())?;
+    tells_fail(rt.alloc(), &identity_emptied())
+}
+
+#[test]
+fn telling_fails_where_nobody_is_named(rt: HostRuntime) -> Result<(), Fail> {
     tells_fail(rt.alloc(), &identity_unnamed())
 }
